@@ -1,0 +1,22 @@
+"""Document 01's examples, by the mirror."""
+
+import unittest
+
+from examples import EXAMPLES, FIRST, LISTING
+from mirror import answer
+
+
+class Examples(unittest.TestCase):
+
+    def test_listing(self):
+        self.assertEqual(answer(FIRST).decode(), LISTING)
+
+    def test_examples(self):
+        for what, data, lines in EXAMPLES:
+            with self.subTest(what):
+                listing = answer(data, check=True).decode().splitlines()
+                self.assertEqual([line for line in listing if line in lines], lines)
+
+
+if __name__ == "__main__":
+    unittest.main()
