@@ -18,12 +18,12 @@ WITH_TREE = (0, 8, 9, 10, 11)   # judgements of files whose nodes are a tree
 NODES2TEXT = Path(__file__).resolve().parent.parent / "tools/nodes2text"
 
 
-def utf8(data):
+def utf8(reading):
     """Are all names of an accepted file UTF-8?"""
-    _, f = judged(data)
+    pool = reading.data[reading.pool_at:]
     try:
-        for offset, length in f.names:
-            data[f.pool_at + offset:f.pool_at + offset + length].decode()
+        for offset, length in reading.names:
+            pool[offset:offset + length].decode()
     except UnicodeDecodeError:
         return False
     return True
@@ -31,8 +31,9 @@ def utf8(data):
 
 @dataclass
 class Difference:
-    """A file, what was answered and what was expected."""
+    """A file, its judgement, what was answered and what was expected."""
     data: bytes
+    number: int
     answer: bytes
     expected: bytes
 
@@ -46,19 +47,20 @@ class Comparison:
         self.smallest = None
 
     def expected(self, files):
-        """For each file the text expected, or only its first line's beginning if that alone counts."""
-        numbers = list(map(judge, files))
-        for_oracle = [data for data, number in zip(files, numbers) if number == 0 and utf8(data)]
+        """For each file its judgement and the text expected, or how that begins if its number alone counts."""
+        judgements = {data: judged(data) for data in files}
+        for_oracle = [data for data, (number, reading) in judgements.items() if number == 0 and utf8(reading)]
         texts = dict(zip(for_oracle, self.oracle.answers(for_oracle))) if for_oracle else {}
-        return [texts.get(data, b"answer %d" % number + (b"\n" if number else b" "))
-                for data, number in zip(files, numbers)]
+        for data in files:
+            number = judgements[data][0]
+            yield number, texts.get(data, b"answer %d" % number + (b"\n" if number else b" "))
 
     def differences(self, files):
         """The differences among these files."""
-        for data, answer, expected in zip(files, self.program.answers(files), self.expected(files)):
+        for data, answer, (number, expected) in zip(files, self.program.answers(files), self.expected(files)):
             agree = answer == expected if expected.endswith(b"\n") else answer.startswith(expected)
             if not agree:
-                yield Difference(data, answer, expected)
+                yield Difference(data, number, answer, expected)
 
     def run(self, files):
         """Compare all files, counting."""
@@ -72,13 +74,12 @@ class Comparison:
 
     def shrunk(self):
         """The smallest difference made smaller; the file keeps its judgement."""
-        number = judge(self.smallest.data)
+        number = self.smallest.number
         if number not in WITH_TREE:
             return self.smallest
 
         def differ(files):
-            kept = [data for data in files if judge(data) == number and (number or utf8(data))]
-            found = {d.data for d in self.differences(kept)} if kept else ()
+            found = {d.data for d in self.differences(files) if d.number == number}
             return [data in found for data in files]
         return next(self.differences([shrink(self.smallest.data, differ)]))
 

@@ -165,7 +165,8 @@ RULES = [
          "            self.each(kids[1:], c, st)\n            self.each(kids[:1], c, st)",
          "            self.each(kids[:1], c, st)\n            self.each(kids[1:], c, st)"),
     Rule("elements-first", "Then later clauses in turn, then the elements.",
-         "self.each(kids[1:], inner(bs, c), st)", "self.each(sorted(kids[1:], key=lambda x: x.kind), inner(bs, c), st)"),
+         "self.each(kids[1:], inner(bs, c), st)",
+         "self.each(sorted(kids[1:], key=lambda x: x.kind), inner(bs, c), st)"),
     Rule("meanings-stay", "At the end earlier meanings return.",
          "        for x in forest:\n            w = way(x.kind)\n",
          "        for x in forest:\n            w = way(x.kind)\n"
@@ -225,7 +226,8 @@ RULES = [
          "            self.each(kids[:1], c, st)\n            bs",
          "            self.each(kids[:1], c._replace(ty=True), st)\n            bs"),
     Rule("type-lasts", "Directly in a Type, not after it.",
-         "            w = way(x.kind)\n", "            w = way(x.kind)\n            c = below(w, c) if w is Way.type else c\n"),
+         "            w = way(x.kind)\n",
+         "            w = way(x.kind)\n            c = below(w, c) if w is Way.type else c\n"),
 ]
 
 EDITED = Path(__file__).resolve().parent / "lexical.py"

@@ -64,6 +64,18 @@ class Program(unittest.TestCase):
             self.assertEqual(done.stdout, "30 files compared, 0 differ\n", done.stderr)
             self.assertEqual((done.returncode, saved), (0, None))
 
+    def test_scripts(self):
+        with tempfile.TemporaryDirectory() as folder:
+            for number, data in enumerate(accepted_files(3, 1)):
+                Path(folder, f"{number}.nodes").write_bytes(data)
+            done, _ = self.run_program(f"{sys.executable} {HERE}/mirror.py --batch --full", 9,
+                                       "--kind", "scripts", folder)
+        self.assertEqual(done.stdout, "3 files compared, 0 differ\n", done.stderr)
+
+    def test_each(self):
+        done, _ = self.run_program(f"{sys.executable} {HERE}/mirror.py --full", 5, "--each")
+        self.assertEqual(done.stdout, "5 files compared, 0 differ\n", done.stderr)
+
     def test_difference(self):
         done, saved = self.run_program(f"{sys.executable} {HERE}/mirror.py --batch", 30)
         self.assertEqual(done.returncode, 1)

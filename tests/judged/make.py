@@ -100,7 +100,8 @@ def number_3():
     yield 3, "all counts above their limits", header(2049, 1025, 257, 257, 16385)
     yield 3, "257 entries of one name, the length right", changed(
         BASE, lambda raw: setattr(raw, "entries", [[0, 0, 0]] * 257))
-    yield 3, "257 globals of one name, the length right", changed(BASE, lambda raw: setattr(raw, "globals", [[0]] * 257))
+    yield 3, "257 globals of one name, the length right", changed(
+        BASE, lambda raw: setattr(raw, "globals", [[0]] * 257))
 
 
 def number_4():
@@ -198,11 +199,25 @@ CHILD = {"S": Plain, "T": Tuple, "N": lambda: Name("n"), "E": Other, "F": lambda
 
 # For each kind, words of children that the table allows.
 ALLOWED = {
-    "Block": ["", "S", "SS", "SSS"], "Plain": ["", "E"], "Assign": ["TE", "NE", "TYE", "NYE"], "Modify": ["TE", "NE"],
-    "If": ["ES", "ESS"], "For": ["TES", "NES"], "Def": ["NS", "NPS", "NPPS", "NYS", "NPYS"],
-    "Load": ["", "N", "NN", "NNN"], "Name": [""], "Tuple": ["", "T", "N", "NTN"], "Place": ["E", "EE"], "Ident": [""],
-    "Lambda": ["E", "PE", "PPE"], "Compr": ["FE", "FEE", "FFE", "FCE", "FCFEE", "FFCE"], "Other": ["", "E", "EE", "EEE"],
-    "ForClause": ["TE", "NE"], "IfClause": ["E"], "Param": ["", "N", "NY", "NE", "NYE"], "Type": ["E"],
+    "Block": ["", "S", "SS", "SSS"],
+    "Plain": ["", "E"],
+    "Assign": ["TE", "NE", "TYE", "NYE"],
+    "Modify": ["TE", "NE"],
+    "If": ["ES", "ESS"],
+    "For": ["TES", "NES"],
+    "Def": ["NS", "NPS", "NPPS", "NYS", "NPYS"],
+    "Load": ["", "N", "NN", "NNN"],
+    "Name": [""],
+    "Tuple": ["", "T", "N", "NTN"],
+    "Place": ["E", "EE"],
+    "Ident": [""],
+    "Lambda": ["E", "PE", "PPE"],
+    "Compr": ["FE", "FEE", "FFE", "FCE", "FCFEE", "FFCE"],
+    "Other": ["", "E", "EE", "EEE"],
+    "ForClause": ["TE", "NE"],
+    "IfClause": ["E"],
+    "Param": ["", "N", "NY", "NE", "NYE"],
+    "Type": ["E"],
 }
 
 
@@ -327,7 +342,8 @@ def number_10():
             ("dd", [1, 2], 0), ("dd", [2, 1], 0), ("dd", [1, 1], 10), ("dd", [2, 2], 10), ("dd", [0, 1], 10),
             ("dd", [1, 3], 10), ("dd", [2, 3], 10), ("dn", [1, 1], 10), ("dn", [2, 1], 0), ("dn", [1, 3], 10),
             ("dl", [1, 1], 10), ("dl", [2, 1], 0), ("ld", [1, 1], 10), ("ll", [1, 2], 0), ("ll", [3, 1], 10),
-            ("dndl", [3, 1, 4, 2], 0), ("dndl", [3, 1, 4, 1], 10), ("dndl", [3, 1, 5, 2], 10), ("dndl", [0, 1, 2, 3], 10)):
+            ("dndl", [3, 1, 4, 2], 0), ("dndl", [3, 1, 4, 1], 10), ("dndl", [3, 1, 5, 2], 10),
+            ("dndl", [0, 1, 2, 3], 10)):
         yield number, f"functions {kinds} with scopes {scopes}", script(functions(kinds), scopes=scopes)
     for kind in "dl":
         for scopes, number in ((range(1, 256), 0), (range(255, 0, -1), 0), (range(1, 257), 10), (range(256, 0, -1), 10),
@@ -355,7 +371,8 @@ def number_11():
         yield number, f"a Lambda with Params {what}", script(Plain(Lambda(*copied(params), Other())))
         yield number, f"a Def with Params {what}", script(Def(Name("a"), *copied(params), Plain()))
     yield 0, "one name in two functions", script(Block(Def(Name("f"), a(), Def(Name("a"), a(), Plain()))))
-    yield 11, "the second function's Params", script(Block(Def(Name("f"), a(), Plain()), Def(Name("g"), a(), a(), Plain())))
+    yield 11, "the second function's Params", script(
+        Block(Def(Name("f"), a(), Plain()), Def(Name("g"), a(), a(), Plain())))
     yield 11, "the inner function's Params", script(Def(Name("f"), a(), Plain(Lambda(b(), a(), b(), Other()))))
 
 
@@ -401,8 +418,8 @@ def of_bytes():
             yield judge(data), f"bytes {change.__name__}", data
 
 
-SECTIONS = (accepted, number_2, number_3, number_4, number_5, number_6, number_7, number_8, number_9, number_10, number_11,
-            several, singly, limits, of_bytes)
+SECTIONS = (accepted, number_2, number_3, number_4, number_5, number_6, number_7, number_8, number_9, number_10,
+            number_11, several, singly, limits, of_bytes)
 
 
 def cases():
