@@ -4,11 +4,11 @@ Each function makes one file of some length or depth; LIMITS has the greatest th
 (by judging, for slots by resolving).
 """
 
-from grow import Grower, some_entries, some_file
+from grow import Grower, some_entries, some_file, with_scopes
 from rawfile import Raw
-from table import SHAPES, STATEMENT, number_scopes, smallest
+from table import SHAPES, STATEMENT, smallest
 from nodefile import ASSIGN, BLOCK, DEF, IDENT, LAMBDA, LOAD, MAX_DEPTH, MAX_ENTRIES, MAX_GLOBALS, MAX_NAMES, \
-    MAX_NODES, MAX_POOL, MAX_SCOPES, NAME, OTHER, PARAM, PLAIN, SCOPED, TUPLE, File, Node, pack, preorder
+    MAX_NODES, MAX_POOL, MAX_SCOPES, NAME, OTHER, PARAM, PLAIN, TUPLE, File, Node, pack, preorder
 
 
 def block(statements):
@@ -21,18 +21,6 @@ def plain(expression):
 
 def param(name):
     return Node(PARAM, kids=[Node(NAME, name)])
-
-
-def numbered(rng, count):
-    """The scope numbers 1 to `count`, sometimes shuffled."""
-    numbers = list(range(1, count + 1))
-    if rng.random() < 0.5:
-        rng.shuffle(numbers)
-    return numbers
-
-
-def with_scopes(rng, root):
-    return number_scopes(root, numbered(rng, sum(node.kind in SCOPED for node in preorder(root))))
 
 
 def nodes(rng, count):
@@ -151,7 +139,7 @@ LIMITS = ((nodes, MAX_NODES), (names, MAX_NAMES), (entries, MAX_ENTRIES), (globa
           (depth, MAX_DEPTH), (functions, MAX_SCOPES), (slots, 4096))
 
 
-def everything(rng, _):
+def everything():
     """All limits of the lists at once."""
     spelled = [b"n%015d" % i for i in range(MAX_NAMES)]
     root = Node(LOAD, kids=[Node(NAME, i % MAX_NAMES) for i in range(MAX_NODES - 1)])
@@ -165,4 +153,4 @@ def edges(rng):
         for make, limit in LIMITS:
             for count in (limit - 1, limit, limit + 1):
                 yield make(rng, count)
-        yield everything(rng, 0)
+        yield everything()

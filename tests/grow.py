@@ -119,13 +119,17 @@ def some_entries(rng, names):
     return [(name, rng.random() < 0.5, slots(i)) for i, name in enumerate(chosen)]
 
 
-def some_file(rng, root, names):
-    """A file around a tree over `names` name numbers."""
-    functions = sum(node.kind in SCOPED for node in preorder(root))
-    numbers = list(range(1, functions + 1))
+def with_scopes(rng, root):
+    """A tree with its scopes numbered, in half of the cases in any order."""
+    numbers = list(range(1, 1 + sum(node.kind in SCOPED for node in preorder(root))))
     if rng.random() < 0.5:
         rng.shuffle(numbers)
-    number_scopes(root, numbers)
+    return number_scopes(root, numbers)
+
+
+def some_file(rng, root, names):
+    """A file around a tree over `names` name numbers."""
+    with_scopes(rng, root)
     for offset, node in enumerate(preorder(root)):
         node.offset = 3 * offset
     return File(

@@ -24,7 +24,7 @@ class Mirror(unittest.TestCase):
 
     def test_slots(self):
         rng = random.Random(1)
-        for count, begins in ((4096, b"answer 0 "), (4097, b"answer 12\n"), (6000, b"answer 12\n")):
+        for count, begins in ((4096, b"answer 0 "), (4097, b"answer 12\n"), (4300, b"answer 12\n")):
             self.assertTrue(answer(edges.slots(rng, count)).startswith(begins))
 
     def test_program(self):

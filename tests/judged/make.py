@@ -407,7 +407,7 @@ def limits():
     for make, limit in edges.LIMITS:
         for count, number in ((limit - 1, 0), (limit, 0), (limit + 1, above.get(make, 3))):
             yield number, f"{make.__name__.strip('_')} {count:,}", make(rng, count)
-    yield 0, "all lists at their limits", edges.everything(rng, 0)
+    yield 0, "all lists at their limits", edges.everything()
 
 
 def of_bytes():
