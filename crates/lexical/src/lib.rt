@@ -1,0 +1,1 @@
+// The theory of names stands in specs/: this crate has no code.

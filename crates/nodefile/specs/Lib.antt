@@ -1,0 +1,14 @@
+pub mod Node
+pub mod Layout
+pub mod Lists
+pub mod FileOf
+pub mod Kids
+pub mod Reads
+pub mod Trees
+pub mod Order
+pub mod Nested
+pub mod Chosen
+pub mod Listed
+pub mod FileLaws
+pub mod Tabled
+pub mod Example
