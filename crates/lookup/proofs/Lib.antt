@@ -1,0 +1,10 @@
+pub mod Growth
+pub mod Copies
+pub mod Inward
+pub mod Captures
+pub mod Locals
+pub mod Outward
+pub mod Names
+pub mod Keeps
+pub mod Idents
+pub mod Functions

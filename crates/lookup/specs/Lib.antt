@@ -1,0 +1,3 @@
+pub mod Bring
+pub mod Lookup
+pub mod Enter

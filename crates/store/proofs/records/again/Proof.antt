@@ -1,0 +1,21 @@
+-- `again` meets its contract: any, then Public if asked.
+use mathlib.Core.Path.{ap, _∙_}
+use Rattle.store.specs.Flags.{withFlag}
+use borrow.Author.Needs.{needs}
+use Rattle.store.proofs.records.again.Statement.{statement}
+use Rattle.store.proofs.records.again.Tie as tie
+
+with-any-requires : tie.Need-with-any-requires
+with-any-requires c κs = search needs
+
+with-public-requires : tie.Need-with-public-requires
+with-public-requires c κs = search needs
+
+returns : tie.Need-returns
+returns c = rw (c .before .if1 .taken) (c .with-public .ensures ∙ ap (withFlag 1073741824) (c .before .before .with-any .ensures))
+
+returns-2 : tie.Need-returns-2
+returns-2 c = rw (c .if1 .left) (c .before .with-any .ensures)
+
+pub again-spec : {M : Type 1} → statement M
+again-spec = tie.close (tie.spec with-any-requires with-public-requires returns returns-2)

@@ -1,0 +1,11 @@
+pub mod Sections
+pub mod Words
+pub mod Flags
+pub mod Hands
+pub mod Scoping
+pub mod Image
+pub mod Meanings
+pub mod Rel
+pub mod Blocks
+pub mod Valid
+pub mod Laws

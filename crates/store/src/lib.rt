@@ -1,0 +1,48 @@
+// The store of the walks: the bindings' records and the working lists, and every read and every store of them.
+// Each function here touches one section or two; what a step of the walks does to all of them is said and proved above.
+mod ids;
+mod meanings;
+mod records;
+mod slots;
+
+pub use ids::BindingId;
+pub use ids::Block;
+pub use ids::Brought;
+pub use ids::Hand;
+pub use ids::LocalSlotId;
+pub use ids::Marks;
+pub use ids::ModuleSlotId;
+pub use ids::Resolution;
+pub use ids::Resolved;
+pub use ids::ScopeId;
+pub use ids::Slot;
+pub use ids::State;
+pub use meanings::current;
+pub use meanings::first_of;
+pub use meanings::global;
+pub use meanings::hidden;
+pub use meanings::known;
+pub use meanings::last_of;
+pub use meanings::load_shown;
+pub use meanings::module_binding;
+pub use meanings::owner;
+pub use meanings::put_known;
+pub use meanings::put_owner;
+pub use meanings::put_range;
+pub use meanings::put_scope;
+pub use meanings::scope_at_level;
+pub use meanings::scope_in;
+pub use meanings::unscope;
+pub use records::bind_again;
+pub use records::name_of;
+pub use records::put_answer;
+pub use records::put_binding;
+pub use records::put_error;
+pub use records::set_captured;
+pub use records::slot_of;
+pub use slots::fresh_slot;
+pub use slots::hand;
+pub use slots::link_slot;
+pub use slots::put_copy;
+pub use slots::put_slot;
+pub use slots::set_param_count;
