@@ -2,7 +2,7 @@
 use Prim.Native.Nat.{ℕ, _+_, _<_, _≤_}
 use mathlib.Core.Path.{_≡_, refl, sym, ap, _∙_}
 use mathlib.Core.Bool.{Bool, true, false, not, _&&_, _||_, or-false, and-true, and-false}
-use mathlib.Core.List.{List, [], _∷_}
+use mathlib.Core.List.{List}
 use native.Mathlib.Omega.{arith}
 use lib.Dec.{eqb}
 use lib.ListN.{length, getD, set}
@@ -14,10 +14,10 @@ use Rattle.store.specs.declared.ids.State.{State}
 use Rattle.store.specs.Sections.{mem}
 use Rattle.store.specs.Flags.{withFlag}
 use Rattle.store.specs.Image.{MadeIn}
-use Rattle.store.specs.Meanings.{Stacked}
 use Rattle.store.specs.Rel.{World, Rel}
 use Rattle.store.specs.Laws.Made.{made-few, made-owner, made-cap, made-captured}
 use Rattle.lookup.specs.Lookup.{Capturing, Captured}
+use Rattle.lookup.proofs.Levels.{stacked-top}
 
 module _ {W : World} {env : List Binding} {ss : List ℕ} {cap : ℕ → Bool} {st : St} {s : State} {binds w t : List ℕ} (rel : Rel W env ss cap st s (mem binds w t)) where
   with-made : {cap′ : ℕ → Bool} {binds′ : List ℕ} → MadeIn (st .made) cap′ binds′ t → Rel W env ss cap′ st s (mem binds′ w t)
@@ -57,12 +57,6 @@ module _ {W : World} {env : List Binding} {ss : List ℕ} {cap : ℕ → Bool} {
   rel-unnoted i x e = rel-caps _ (λ j. sym (rw (e, and-false (eqb j i)) (or-false (cap j))))
 
 -- ---- `capture_local`
-
--- the innermost scope
-pub stacked-top : (level : ℕ) (ss t : List ℕ) → level + 1 ≡ length ss → Stacked ss t → getD t (20736 + level) 0 ≡ top ss
-unfolding Stacked top
-stacked-top level [] t e s = absurd (omega arith)
-stacked-top level (x ∷ ss) t e s = let z : level ≡ length ss = omega arith in rw z (s .0)
 
 module _ {id level : ℕ} {binds t : List ℕ} (owner scope : ℕ) (e-owner : owner ≡ getD t (7424 + id) 0) (e-scope : scope ≡ getD t (20736 + level) 0) where
   owner-is : (g : Capturing id level binds t) → owner ≡ g .b .owner

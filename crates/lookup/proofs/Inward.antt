@@ -1,88 +1,22 @@
 -- The steps of `bring`: what it hands to the functions that it calls, and what it makes of what they ensure.
-use Prim.Native.Nat.{ℕ, suc, _+_, _-_, _/_, _%_, _<_}
+use Prim.Native.Nat.{ℕ, _+_, _-_, _/_, _%_, _<_}
 use mathlib.Core.Path.{_≡_, refl, sym, ap, _∙_}
 use mathlib.Core.Bool.{true, false}
-use mathlib.Core.List.{List, [], _∷_}
-use mathlib.Core.Option.{Option, none, some}
+use mathlib.Core.List.{List}
+use mathlib.Core.Option.{none, some}
 use native.Mathlib.Omega.{arith}
-use lib.ListN.{length, getD, getElem?}
-use Rattle.lexical.specs.Lists.{first, mapO, none-some, Tested, was, wasnt, tested}
-use Rattle.lexical.specs.State.{Binding, Slot, St}
-use Rattle.lexical.specs.Third.{holds, handIn, hand, copyIn, bringTo, bring}
+use lib.ListN.{getD}
+use Rattle.lexical.specs.Third.{handIn, copyIn, bring}
 use Rattle.store.specs.declared.ids.State.{State}
 use Rattle.store.specs.declared.ids.Brought.{Brought}
-use Rattle.store.specs.declared.ids.LocalSlotId.{LocalSlotId}
 use Rattle.store.specs.declared.ids.Hand.{Hand}
 use Rattle.store.specs.declared.ids.Hand.the-variants.{At, Nothing}
 use Rattle.store.specs.Sections.{Mem, mem}
 use Rattle.store.specs.Hands.{handOf, Slotted}
-use Rattle.store.specs.Meanings.{Stacked}
 use Rattle.store.specs.Laws.Made.{made-few, made-slot}
 use Rattle.lookup.specs.Bring.{Copying, Copied, Bringing, Brings}
 use Rattle.lookup.proofs.Growth.{over-copy, never-both}
-
--- ---- `lexical`'s bring
-
-bringTo-made : (o : Option ℕ) (s : ℕ) (b : Binding) (st : St) (r : ℕ × St) → r .1 .made ≡ st .made → bringTo o s b st r .1 .made ≡ st .made
-unfolding bringTo copyIn
-bringTo-made none s b st r e = e
-bringTo-made (some k) s b st r e = refl
-
--- no binding is made
-pub bring-made : (ss : List ℕ) (b : Binding) (st : St) → bring ss b st .1 .made ≡ st .made
-unfolding bring
-bring-made [] b st = refl
-bring-made (s ∷ ss) b st = bringTo-made (hand s (b .id) st) s b st (bring ss b st) (bring-made ss b st)
-
-pub bring-here : (s : ℕ) (ss : List ℕ) (b : Binding) (st : St) (k : ℕ) → hand s (b .id) st ≡ some k → bring (s ∷ ss) b st ≡ (k, st)
-unfolding bring bringTo
-bring-here s ss b st k e = rw e refl
-
-pub bring-copied : (s : ℕ) (ss : List ℕ) (b : Binding) (st : St) → hand s (b .id) st ≡ none → bring (s ∷ ss) b st ≡ copyIn s b (bring ss b st)
-unfolding bring bringTo
-bring-copied s ss b st e = rw e refl
-
--- ---- what is at hand
-
-pub hand-small : (s i k n : ℕ) (rs : List Slot) → ((j : ℕ) (r : Slot) → getElem? rs j ≡ some r → r .num < n) → handIn s i rs ≡ some k → k < n
-unfolding handIn first mapO
-hand-small s i k n [] h e = absurd (none-some refl e)
-hand-small s i k n (r ∷ rs) h e = go (tested (holds s i r)) (hand-small s i k n rs (λ j x. h (suc j) x))
-  where
-    go : Tested (holds s i r) → (handIn s i rs ≡ some k → k < n) → k < n
-    go (was q) _ = let z : some (r .num) ≡ some k = rw q at e in let y : r .num ≡ k = cc in omega (arith, h 0 r refl)
-    go (wasnt q) rest = rest (rw q at e)
-
-hand-at : (o : Option ℕ) (k : ℕ) → At (record { 0 = k }) ≡ handOf o → o ≡ some k
-hand-at none k e = absurd (let z : _≡_ {A = ℕ} 0 1 = cc in omega arith)
-hand-at (some x) k e = let z : _≡_ {A = LocalSlotId} (record { 0 = k }) (record { 0 = x }) = cc in ap (λ (y : LocalSlotId). some (y .0)) (sym z)
-
-hand-nothing : (o : Option ℕ) → Nothing ≡ handOf o → o ≡ none
-hand-nothing none e = refl
-hand-nothing (some x) e = absurd (let z : _≡_ {A = ℕ} 0 1 = cc in omega arith)
-
--- ---- the scope at a level
-
-pub record Innermost (level scope : ℕ) (inner t : List ℕ) : Type 0 where
-  pub outer : List ℕ
-  pub is : inner ≡ scope ∷ outer
-  pub level-is : level ≡ length outer
-  pub small : scope < 256
-  pub stack : Stacked outer t
-
-pub innermost : (level scope : ℕ) (inner t : List ℕ) → level + 1 ≡ length inner → scope ≡ getD t (20736 + level) 0 → Stacked inner t → Innermost level scope inner t
-unfolding Stacked
-innermost level scope [] t l e s = absurd (omega arith)
-innermost level scope (x ∷ xs) t l e s =
-    let z : level ≡ length xs = omega arith in
-    let y : x ≡ scope = sym (e ∙ (rw z (s .0))) in
-    record { outer = xs; is = rw y refl; level-is = z; small = rw (← y) (s .1); stack = s .2 }
-
-length-none : (xs : List ℕ) → length xs ≡ 0 → xs ≡ []
-length-none [] e = refl
-length-none (x ∷ xs) e = absurd (omega arith)
-
--- ---- `bring`
+use Rattle.lookup.proofs.Levels.{bring-made, bring-here, bring-copied, hand-small, hand-at, hand-nothing, Innermost, innermost, length-none}
 
 module _ {level id : ℕ} {s : State} {binds w t : List ℕ} where
   pub bring-low : Bringing level id s (mem binds w t) → level < 127

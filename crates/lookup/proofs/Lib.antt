@@ -1,5 +1,6 @@
 pub mod Growth
 pub mod Copies
+pub mod Levels
 pub mod Inward
 pub mod Captures
 pub mod Locals

@@ -20,7 +20,7 @@ use Rattle.store.specs.Sections.{Mem, mem}
 use Rattle.store.specs.Rel.{caps}
 use Rattle.lookup.specs.Bring.{Bringing, Brings}
 use Rattle.lookup.specs.Lookup.{resOf, looked, Small, Capturing, Captured, Locally, LocalDone}
-use Rattle.lookup.proofs.Inward.{bring-made}
+use Rattle.lookup.proofs.Levels.{bring-made}
 
 module _ {id : ℕ} {s : State} {binds w t : List ℕ} where
   abbrev pub to-capture : Locally id s (mem binds w t) → Capturing id (s .level) binds t

@@ -1,0 +1,11 @@
+pub mod Picks
+pub mod Collecting
+pub mod Steps
+pub mod Counting
+pub mod Stored
+pub mod Entered
+pub mod Comprs
+pub mod Functions
+pub mod Declared
+pub mod Ordered
+pub mod Walked
