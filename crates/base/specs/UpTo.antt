@@ -45,6 +45,12 @@ module _ {A : Type 0} where
   upTo f zero = []
   upTo f (suc n) = f 0 ∷ upTo (λ k. f (suc k)) n
 
+  -- one more, at the end
+  pub upTo-snoc : (f : ℕ → A) (n : ℕ) → upTo f (suc n) ≡ upTo f n ++ (f n ∷ [])
+  unfolding upTo
+  upTo-snoc f zero = refl
+  upTo-snoc f (suc n) = ap (λ (l : List A). f 0 ∷ l) (upTo-snoc (λ k. f (suc k)) n)
+
   pub upTo-length : (f : ℕ → A) (n : ℕ) → length (upTo f n) ≡ n
   unfolding upTo
   upTo-length f zero = refl

@@ -14,7 +14,8 @@ use Rattle.nodefile.specs.Trees.{Whole, tree}
 use Rattle.judge.specs.Header.{HeaderOk, header-ok}
 use Rattle.judge.specs.Lists.{entryNames, globalNames, BadList, BadLists, bad-entry, bad-global}
 use Rattle.judge.specs.Nodes.{Sound}
-use Rattle.judge.specs.Depth.{height, TooDeep, too-deep}
+use Rattle.judge.specs.Depth.{TooDeep, too-deep}
+use Rattle.nodefile.specs.Height.{height}
 use Rattle.judge.specs.Cond.{Cond}
 use Rattle.judge.specs.Inside.Held.{Held}
 use Rattle.judge.specs.Inside.Found.{Unset}

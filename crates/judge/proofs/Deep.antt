@@ -7,7 +7,7 @@ use lib.ListN.{length, take, drop, length-take, length-drop}
 use Rattle.lexical.specs.Tree.{Forest, nil, node}
 use Rattle.nodefile.specs.Node.{sizeOf, below}
 use Rattle.nodefile.specs.Reads.{Reads}
-use Rattle.judge.specs.Depth.{height}
+use Rattle.nodefile.specs.Height.{height}
 use Rattle.judge.specs.Inside.Held.{Held}
 use Rattle.judge.proofs.Fitting.{rest-is, below-is}
 

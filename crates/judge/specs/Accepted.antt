@@ -14,7 +14,7 @@ use Rattle.judge.specs.Header.{HeaderOk}
 use Rattle.judge.specs.Names.{NamesOk}
 use Rattle.judge.specs.Lists.{entryNames, globalNames}
 use Rattle.judge.specs.Nodes.{hasName, hasScope}
-use Rattle.judge.specs.Depth.{height}
+use Rattle.nodefile.specs.Height.{height}
 use Rattle.judge.specs.Scopes.{EachOnce}
 
 -- a list of names: each is one of the file's, and none stands twice

@@ -26,7 +26,8 @@ use Rattle.judge.specs.Names.{NamesOk, empty, past-pool, spelled-before}
 use Rattle.judge.specs.Lists.{BadList, no-such-name as not-listed, twice, bad-entry, bad-global}
 use Rattle.judge.specs.Nodes.{at, hasName, hasScope, Sound, sound, no-such-name, stray-value}
 use Rattle.judge.specs.Children.{root-no-statement, other-children}
-use Rattle.judge.specs.Depth.{height, too-deep}
+use Rattle.judge.specs.Depth.{too-deep}
+use Rattle.nodefile.specs.Height.{height}
 use Rattle.judge.specs.Scopes.{EachOnce, not-each-once, many-scopes}
 use Rattle.judge.specs.Params.{same-name}
 use Rattle.judge.specs.Cond.{Cond, Judged}

@@ -3,7 +3,7 @@ ghost use Prim.Native.Nat.{ℕ, _<_};
 ghost use Rattle.base.specs.Says.{Says};
 ghost use Rattle.lexical.specs.Tree.{Forest};
 ghost use Rattle.nodefile.specs.Reads.{Reads};
-ghost use Rattle.judge.specs.Depth.{height};
+ghost use Rattle.nodefile.specs.Height.{height};
 ghost use Rattle.judge.specs.Inside.Held.{Held};
 
 // Whether the trees that t holds are more than `left` deep. A stretch of at most `left` nodes is not.

@@ -4,6 +4,7 @@ pub mod Lists
 pub mod FileOf
 pub mod Kids
 pub mod Reads
+pub mod Height
 pub mod Trees
 pub mod Order
 pub mod Nested

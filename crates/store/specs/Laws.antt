@@ -8,3 +8,4 @@ pub mod Nodes
 pub mod Around
 pub mod Names
 pub mod Reach
+pub mod Placed

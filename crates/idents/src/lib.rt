@@ -1,0 +1,235 @@
+// Walk three of document 01: what each identifier means.
+// The nodes in the order of resolving: functions for statements, targets, expressions, clauses, parameters and types call one another.
+ghost use mathlib.Core.Path.{_≡_};
+ghost use mathlib.Core.Bool.{true, false};
+ghost use Prim.Native.Nat.{_+_, _≤_, _<_};
+ghost use lib.ListN.{length};
+ghost use Rattle.store.specs.Sections.{mem};
+ghost use Rattle.idents.specs.Cycle.{Pre, Pre1, PreKind, PreDef, Done, DoneAny, Parted, LastAt};
+use store::State;
+
+// The byte at which the last of the nodes of a part starts.
+fn last(part: &[u8]) -> usize
+    requires { ⌜ (length (now part) ≤ 16384) × Parted (now part) ⌝ }
+    ensures { λ r. ⌜ ((g : Parted (now (part .entry))) → LastAt (now (part .entry)) (g .at) (g .f) r) ⌝ }
+{
+    let mut i = 0;
+    let mut e = 8 * nodefile::size(part) as usize;
+    while e < part.len() {
+        i = e;
+        e = i + 8 * nodefile::size(&part[i..]) as usize;
+    }
+    i
+}
+
+// The nodes of a part, one after the other.
+fn each(
+    part: &[u8],
+    at: usize,
+    ty: bool,
+    st: State,
+    binds: &mut [u64],
+    w: &mut [u32],
+    t: &mut [u16],
+) -> State
+    requires { ⌜ Pre (now part) at st (mem (now binds) (now w) (now t)) ⌝ }
+    ensures { λ r. ⌜ Done (now (part .entry)) at ty st (mem (now (binds .entry)) (now (w .entry)) (now (t .entry))) r (mem (now (binds .exit)) (now (w .exit)) (now (t .exit))) ⌝ }
+{
+    let mut s = st;
+    let mut n = at;
+    let mut i = 0;
+    while i < part.len() {
+        let k = nodefile::size(&part[i..]) as usize;
+        let e = i + 8 * k;
+        s = resolve_node(&part[i..e], n, ty, s, binds, w, t);
+        n += k;
+        i = e;
+    }
+    s
+}
+
+// One node: a statement, a target, an expression, a clause, a parameter or a type. In an IfClause and a Param the children come in their order.
+pub fn resolve_node(
+    part: &[u8],
+    at: usize,
+    ty: bool,
+    st: State,
+    binds: &mut [u64],
+    w: &mut [u32],
+    t: &mut [u16],
+) -> State
+    requires { ⌜ Pre1 (now part) at st (mem (now binds) (now w) (now t)) ⌝ }
+    ensures { λ r. ⌜ Done (now (part .entry)) at ty st (mem (now (binds .entry)) (now (w .entry)) (now (t .entry))) r (mem (now (binds .exit)) (now (w .exit)) (now (t .exit))) ⌝ }
+{
+    let k = nodefile::kind(part);
+    if k < 8 {
+        return resolve_idents(part, at, ty, st, binds, w, t);
+    }
+    if k < 11 {
+        return resolve_idents_in_assign(part, at, ty, st, binds, w, t);
+    }
+    if k < 15 {
+        return resolve_idents_in_expr(part, at, ty, st, binds, w, t);
+    }
+    if k == 15 {
+        return resolve_idents_in_for_clause(part, at, ty, st, binds, w, t);
+    }
+    if k < 18 {
+        let e = part.len();
+        return each(&part[8..e], at + 1, ty, st, binds, w, t);
+    }
+    resolve_idents_in_type_expr(part, at, st, binds, w, t)
+}
+
+// A statement.
+fn resolve_idents(
+    part: &[u8],
+    at: usize,
+    ty: bool,
+    st: State,
+    binds: &mut [u64],
+    w: &mut [u32],
+    t: &mut [u16],
+) -> State
+    requires { ⌜ PreKind 0 7 (now part) at st (mem (now binds) (now w) (now t)) ⌝ }
+    ensures { λ r. ⌜ Done (now (part .entry)) at ty st (mem (now (binds .entry)) (now (w .entry)) (now (t .entry))) r (mem (now (binds .exit)) (now (w .exit)) (now (t .exit))) ⌝ }
+{
+    if nodefile::kind(part) == 6 {
+        return resolve_idents_in_def(part, at, st, binds, w, t);
+    }
+    let e = part.len();
+    each(&part[8..e], at + 1, ty, st, binds, w, t)
+}
+
+// A target: the expressions in it.
+fn resolve_idents_in_assign(
+    part: &[u8],
+    at: usize,
+    ty: bool,
+    st: State,
+    binds: &mut [u64],
+    w: &mut [u32],
+    t: &mut [u16],
+) -> State
+    requires { ⌜ PreKind 8 10 (now part) at st (mem (now binds) (now w) (now t)) ⌝ }
+    ensures { λ r. ⌜ Done (now (part .entry)) at ty st (mem (now (binds .entry)) (now (w .entry)) (now (t .entry))) r (mem (now (binds .exit)) (now (w .exit)) (now (t .exit))) ⌝ }
+{
+    let e = part.len();
+    each(&part[8..e], at + 1, ty, st, binds, w, t)
+}
+
+// An expression.
+fn resolve_idents_in_expr(
+    part: &[u8],
+    at: usize,
+    ty: bool,
+    st: State,
+    binds: &mut [u64],
+    w: &mut [u32],
+    t: &mut [u16],
+) -> State
+    requires { ⌜ PreKind 11 14 (now part) at st (mem (now binds) (now w) (now t)) ⌝ }
+    ensures { λ r. ⌜ Done (now (part .entry)) at ty st (mem (now (binds .entry)) (now (w .entry)) (now (t .entry))) r (mem (now (binds .exit)) (now (w .exit)) (now (t .exit))) ⌝ }
+{
+    let k = nodefile::kind(part);
+    if k == 11 {
+        let name = nodefile::value(part) as usize;
+        return lookup::resolve_ident(name, at, ty, st, binds, w, t);
+    }
+    if k == 12 {
+        return resolve_idents_in_def(part, at, st, binds, w, t);
+    }
+    if k == 13 {
+        return resolve_idents_in_compr(part, at, st, binds, w, t);
+    }
+    let e = part.len();
+    each(&part[8..e], at + 1, ty, st, binds, w, t)
+}
+
+// A type: a local directly in it is refused.
+fn resolve_idents_in_type_expr(
+    part: &[u8],
+    at: usize,
+    st: State,
+    binds: &mut [u64],
+    w: &mut [u32],
+    t: &mut [u16],
+) -> State
+    requires { ⌜ PreKind 18 18 (now part) at st (mem (now binds) (now w) (now t)) ⌝ }
+    ensures { λ r. ⌜ DoneAny (now (part .entry)) at st (mem (now (binds .entry)) (now (w .entry)) (now (t .entry))) r (mem (now (binds .exit)) (now (w .exit)) (now (t .exit))) ⌝ }
+{
+    let e = part.len();
+    each(&part[8..e], at + 1, true, st, binds, w, t)
+}
+
+// A ForClause: its expression before its target.
+fn resolve_idents_in_for_clause(
+    part: &[u8],
+    at: usize,
+    ty: bool,
+    st: State,
+    binds: &mut [u64],
+    w: &mut [u32],
+    t: &mut [u16],
+) -> State
+    requires { ⌜ PreKind 15 15 (now part) at st (mem (now binds) (now w) (now t)) ⌝ }
+    ensures { λ r. ⌜ Done (now (part .entry)) at ty st (mem (now (binds .entry)) (now (w .entry)) (now (t .entry))) r (mem (now (binds .exit)) (now (w .exit)) (now (t .exit))) ⌝ }
+{
+    let e = part.len();
+    let kids = &part[8..e];
+    let b = 8 * nodefile::size(kids) as usize;
+    let f = kids.len();
+    let s = each(&kids[b..f], at + 1 + b / 8, ty, st, binds, w, t);
+    resolve_node(&kids[0..b], at + 1, ty, s, binds, w, t)
+}
+
+// A Def or a Lambda: all but its last child outside, its last child inside.
+fn resolve_idents_in_def(
+    part: &[u8],
+    at: usize,
+    st: State,
+    binds: &mut [u64],
+    w: &mut [u32],
+    t: &mut [u16],
+) -> State
+    requires { ⌜ PreDef (now part) at st (mem (now binds) (now w) (now t)) ⌝ }
+    ensures { λ r. ⌜ DoneAny (now (part .entry)) at st (mem (now (binds .entry)) (now (w .entry)) (now (t .entry))) r (mem (now (binds .exit)) (now (w .exit)) (now (t .exit))) ⌝ }
+{
+    let scope = nodefile::value(part) as usize;
+    let e = part.len();
+    let kids = &part[8..e];
+    let b = last(kids);
+    let f = kids.len();
+    let s = each(&kids[0..b], at + 1, false, st, binds, w, t);
+    let inside = lookup::enter_def(scope, s, binds, t);
+    let r = resolve_node(&kids[b..f], at + 1 + b / 8, false, inside, binds, w, t);
+    lookup::exit_def(scope, r, binds, t)
+}
+
+// A comprehension: its first clause outside, the variables, then the rest inside.
+fn resolve_idents_in_compr(
+    part: &[u8],
+    at: usize,
+    st: State,
+    binds: &mut [u64],
+    w: &mut [u32],
+    t: &mut [u16],
+) -> State
+    requires { ⌜ PreKind 13 13 (now part) at st (mem (now binds) (now w) (now t)) ⌝ }
+    ensures { λ r. ⌜ DoneAny (now (part .entry)) at st (mem (now (binds .entry)) (now (w .entry)) (now (t .entry))) r (mem (now (binds .exit)) (now (w .exit)) (now (t .exit))) ⌝ }
+{
+    let e = part.len();
+    let kids = &part[8..e];
+    let b = 8 * nodefile::size(kids) as usize;
+    let f = kids.len();
+    let s = resolve_node(&kids[0..b], at + 1, false, st, binds, w, t);
+    let lo = s.bindings;
+    let r = collect::add_compr(kids, at + 1, s, binds, w, t);
+    let hi = r.bindings;
+    let q = each(&kids[b..f], at + 1 + b / 8, false, r, binds, w, t);
+    if q.full {
+        return q;
+    }
+    store::unscope(binds, t, lo, hi);
+    q
+}
