@@ -1,13 +1,17 @@
-// Reads a node file on standard input and writes the number that judging gives it: `answer N`.
-// A file of more than 65,536 bytes is judged by as many: it is too long for any header that is accepted, and so are they.
+// Judges the node file on standard input and writes `answer N`.
+use libc::STDIN_FILENO;
+use libc::STDOUT_FILENO;
+
+// A file longer than any that is accepted has the answer of its first 65,536 bytes (`judged-front`, crate judge).
+fn answer() -> u64 {
+    let mut space = io::large_buffer();
+    let n = io::read_full(STDIN_FILENO, &mut space);
+    judge::judge(&space[..n])
+}
 
 fn main() {
-    let mut input = io::large_buffer();
-    let n = io::read_full(0, &mut input);
-    let number = judge::judge(&input[..n]);
-    io::write_all(1, b"answer ");
-    let mut text = [0u8; 20];
-    let k = io::decimal(number, &mut text);
-    io::write_all(1, &text[..k]);
-    io::write_all(1, b"\n");
+    let number = answer();
+    io::write_all(STDOUT_FILENO, b"answer ");
+    io::print_decimal(STDOUT_FILENO, number);
+    io::write_all(STDOUT_FILENO, b"\n");
 }

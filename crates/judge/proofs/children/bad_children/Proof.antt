@@ -1,4 +1,3 @@
--- HEAD
 -- Number 8 of the whole list: the children of each node passed are what the table allows.
 use Prim.Native.Nat.{ℕ, _+_, _*_, _≤_, _<_}
 use mathlib.Core.Path.{_≡_, refl, sym, ap, _∙_, subst}
@@ -14,14 +13,8 @@ use Rattle.judge.specs.Children.{root-no-statement, other-children}
 use Rattle.judge.proofs.Pass.{Passed, passed-none, passed-inside, passed-more, passed-all}
 use Rattle.judge.proofs.Here.{Here, node-here, kids-here}
 use Rattle.judge.proofs.Fitting.{below-is}
--- END
 use Rattle.judge.proofs.children.bad_children.Statement.{statement}
 use Rattle.judge.proofs.children.bad_children.Tie as tie
-use Rattle.judge.proofs.children.bad_children.Reads as reads
-use Rattle.judge.proofs.children.bad_children.Lts as lts
-use Rattle.judge.proofs.children.kids_allowed.Reads as kids-allowed-reads
-use Rattle.nodefile.proofs.kind.Reads as kind-reads
-use Rattle.nodefile.proofs.size.Reads as size-reads
 
 abbrev Inv-loop : tie.InvT-loop
 Inv-loop ns t₀ t = Passed ns (λ k. (ks : List ℕ) → Kids (below (at ns k)) ks → allowed (kindOf (at ns k)) ks ≡ true) t
@@ -29,73 +22,80 @@ Inv-loop ns t₀ t = Passed ns (λ k. (ks : List ℕ) → Kids (below (at ns k))
 abbrev μ-loop : tie.MeasureT-loop
 μ-loop ns t₀ t = length t
 
--- src/children.rt:104:8
 kind-requires : tie.Need-kind-requires Inv-loop μ-loop
 kind-requires c κs = tt
 
--- src/children.rt:105:9
 returns : tie.Need-returns Inv-loop μ-loop
 returns c = root-no-statement (omega arith)
 
--- src/children.rt:108:5
 loop-holds : tie.Need-loop-holds Inv-loop μ-loop
 loop-holds c = passed-none _ _
 
--- src/children.rt:109:23
 size-requires : tie.Need-size-requires Inv-loop μ-loop
 size-requires c κs = tt
 
--- src/children.rt:109:19
 mul-end : tie.Need-mul-end Inv-loop μ-loop
 mul-end c = omega arith
 
--- src/children.rt:110:25
 sub-kids-allowed : tie.Need-sub-kids-allowed Inv-loop μ-loop
-sub-kids-allowed c = omega (arith, (node-here ((c .before .before .before .before .before .before .pre)) ((c .before .before .loop) .inv) (omega arith)), (c .size) .ensures .is)
+sub-kids-allowed c =
+    let pre′ = c .before .before .before .before .before .before .pre in
+    let node′ = node-here pre′ (c .before .before .loop .inv) (omega arith) in
+    omega (arith, node′, c .size .ensures .is)
 
--- src/children.rt:110:25
 part-kids-allowed-start : tie.Need-part-kids-allowed-start Inv-loop μ-loop
-part-kids-allowed-start c = omega (arith, (node-here ((c .before .before .before .before .before .before .pre)) ((c .before .before .loop) .inv) (omega arith)), (c .size) .ensures .is)
+part-kids-allowed-start c =
+    let pre′ = c .before .before .before .before .before .before .pre in
+    let node′ = node-here pre′ (c .before .before .loop .inv) (omega arith) in
+    omega (arith, node′, c .size .ensures .is)
 
--- src/children.rt:110:25
 part-kids-allowed-end : tie.Need-part-kids-allowed-end Inv-loop μ-loop
-part-kids-allowed-end c = omega (arith, (node-here ((c .before .before .before .before .before .before .pre)) ((c .before .before .loop) .inv) (omega arith)), (c .size) .ensures .is)
+part-kids-allowed-end c =
+    let pre′ = c .before .before .before .before .before .before .pre in
+    let node′ = node-here pre′ (c .before .before .loop .inv) (omega arith) in
+    omega (arith, node′, c .size .ensures .is)
 
--- src/children.rt:110:37
 kind-requires-2 : tie.Need-kind-requires-2 Inv-loop μ-loop
 kind-requires-2 c κs = tt
 
--- src/children.rt:110:12
 kids-allowed-requires : tie.Need-kids-allowed-requires Inv-loop μ-loop
-kids-allowed-requires c κs = (subst Fits (sym (below-is _ ((c .before .before .size) .ensures .is))) ((node-here ((c .before .before .before .before .before .before .before .before .pre)) ((c .before .before .before .before .loop) .inv) (omega arith)) .fits), omega (arith, (node-here ((c .before .before .before .before .before .before .before .before .pre)) ((c .before .before .before .before .loop) .inv) (omega arith)), (c .kind2) .ensures .is))
+kids-allowed-requires c κs =
+    let pre′ = c .before .before .before .before .before .before .before .before .pre in
+    let node′ = node-here pre′ (c .before .before .before .before .loop .inv) (omega arith) in
+    (subst Fits (sym (below-is _ (c .before .before .size .ensures .is))) (node′ .fits), omega (arith, node′, c .kind2 .ensures .is))
 
--- src/children.rt:111:17
 sub-t : tie.Need-sub-t Inv-loop μ-loop
 sub-t c = omega arith
 
--- src/children.rt:111:17
 part-t-start : tie.Need-part-t-start Inv-loop μ-loop
 part-t-start c = omega arith
 
--- src/children.rt:111:17
 part-t-end : tie.Need-part-t-end Inv-loop μ-loop
 part-t-end c = omega arith
 
--- src/children.rt:108:5
 loop-less : tie.Need-loop-less Inv-loop μ-loop
 loop-less c = omega arith
 
--- src/children.rt:108:5
 loop-again : tie.Need-loop-again Inv-loop μ-loop
-loop-again c = passed-more ((c .before .before .before .before .before .before .before .loop) .inv) (λ ks m. sym ((kids-here (λ k ks. (c .before .before .kids-allowed) .result ≡ allowed k ks) ((c .before .before .before .before .before .size) .ensures .is) ((c .before .before .before .kind2) .ensures .is) ((c .before .before .before .before .before .before .before .loop) .inv .part) ((c .before .before .kids-allowed) .ensures)) ks m) ∙ (c .before .if2) .taken)
+loop-again c =
+    let loop′ = c .before .before .before .before .before .before .before .loop in
+    let kids-allowed′ = c .before .before .kids-allowed in
+    let size′ = c .before .before .before .before .before .size in
+    let said′ = kids-here (λ k ks. kids-allowed′ .result ≡ allowed k ks) (size′ .ensures .is) (c .before .before .before .kind2 .ensures .is) (loop′ .inv .part) (kids-allowed′ .ensures) in
+    passed-more (loop′ .inv) (λ ks m. sym (said′ ks m) ∙ c .before .if2 .taken)
 
--- src/children.rt:113:13
 returns-2 : tie.Need-returns-2 Inv-loop μ-loop
-returns-2 c = let l = passed-inside ((c .before .before .before .before .before .before .loop) .inv) (omega arith) in let f = (c .before .before .before .before .before .before .before .before .before .before .pre) .fits ((c .before .before .before .before .before .before .loop) .inv .here) l in other-children ((c .before .before .before .before .before .before .loop) .inv .here) l (f .0) (f .1) (sym ((kids-here (λ k ks. (c .before .kids-allowed) .result ≡ allowed k ks) ((c .before .before .before .before .size) .ensures .is) ((c .before .before .kind2) .ensures .is) ((c .before .before .before .before .before .before .loop) .inv .part) ((c .before .kids-allowed) .ensures)) (f .0) (f .1)) ∙ (c .if2) .left)
+returns-2 c =
+    let loop′ = c .before .before .before .before .before .before .loop in
+    let pre′ = c .before .before .before .before .before .before .before .before .before .before .pre in
+    let kids-allowed′ = c .before .kids-allowed in
+    let said′ = kids-here (λ k ks. kids-allowed′ .result ≡ allowed k ks) (c .before .before .before .before .size .ensures .is) (c .before .before .kind2 .ensures .is) (loop′ .inv .part) (kids-allowed′ .ensures) in
+    let l = passed-inside (loop′ .inv) (omega arith) in let f = pre′ .fits (loop′ .inv .here) l in other-children (loop′ .inv .here) l (f .0) (f .1) (sym (said′ (f .0) (f .1)) ∙ c .if2 .left)
 
--- src/children.rt:100:1
 returns-3 : tie.Need-returns-3 Inv-loop μ-loop
-returns-3 c = λ f. elim f [ root-no-statement h ↦ omega arith | other-children k l ks m n ↦ true≢false (sym (passed-all ((c .before .loop) .inv) (omega arith) (omega (arith, (c .before .before .before .before .before .pre) .root)) k l ks m) ∙ n) ]
+returns-3 c =
+    let pre′ = c .before .before .before .before .before .pre in
+    λ f. elim f [ root-no-statement h ↦ omega arith | other-children k l ks m n ↦ true≢false (sym (passed-all (c .before .loop .inv) (omega arith) (omega (arith, pre′ .root)) k l ks m) ∙ n) ]
 
 pub bad-children-spec : {M : Type 1} → statement M
 bad-children-spec =

@@ -1,4 +1,3 @@
--- HEAD
 -- The codes of the rows, by computation.
 use Prim.Native.Nat.{ℕ}
 use mathlib.Core.Path.{_≡_, sym, ap}
@@ -7,106 +6,86 @@ use borrow.Author.Needs.{needs}
 use Rattle.lexical.specs.Table.{row}
 use Rattle.judge.specs.Inside.Code.{codeOf}
 use Rattle.judge.proofs.Codes.{none-of}
--- END
 use Rattle.judge.proofs.children.code.Statement.{statement}
 use Rattle.judge.proofs.children.code.Tie as tie
-use Rattle.judge.proofs.children.code.Reads as reads
-use Rattle.judge.proofs.children.code.Lts as lts
 
--- src/children.rt:14:1
 returns : tie.Need-returns
 unfolding row
 returns c = search needs
 
--- src/children.rt:14:1
 returns-2 : tie.Need-returns-2
 unfolding row
 returns-2 c = search needs
 
--- src/children.rt:14:1
 returns-3 : tie.Need-returns-3
 unfolding row
 returns-3 c = search needs
 
--- src/children.rt:14:1
 returns-4 : tie.Need-returns-4
 unfolding row
 returns-4 c = search needs
 
--- src/children.rt:14:1
 returns-5 : tie.Need-returns-5
 unfolding row
 returns-5 c = search needs
 
--- src/children.rt:14:1
 returns-6 : tie.Need-returns-6
 unfolding row
 returns-6 c = search needs
 
--- src/children.rt:14:1
 returns-7 : tie.Need-returns-7
 unfolding row
 returns-7 c = search needs
 
--- src/children.rt:14:1
 returns-8 : tie.Need-returns-8
 unfolding row
 returns-8 c = search needs
 
--- src/children.rt:14:1
 returns-9 : tie.Need-returns-9
 unfolding row
 returns-9 c = search needs
 
--- src/children.rt:14:1
 returns-10 : tie.Need-returns-10
 unfolding row
 returns-10 c = search needs
 
--- src/children.rt:14:1
 returns-11 : tie.Need-returns-11
 unfolding row
 returns-11 c = search needs
 
--- src/children.rt:14:1
 returns-12 : tie.Need-returns-12
 unfolding row
 returns-12 c = search needs
 
--- src/children.rt:14:1
 returns-13 : tie.Need-returns-13
 unfolding row
 returns-13 c = search needs
 
--- src/children.rt:14:1
 returns-14 : tie.Need-returns-14
 unfolding row
 returns-14 c = search needs
 
--- src/children.rt:14:1
 returns-15 : tie.Need-returns-15
 unfolding row
 returns-15 c = search needs
 
--- src/children.rt:14:1
 returns-16 : tie.Need-returns-16
 unfolding row
 returns-16 c = search needs
 
--- src/children.rt:14:1
 returns-17 : tie.Need-returns-17
 unfolding row
 returns-17 c = search needs
 
--- src/children.rt:14:1
 returns-18 : tie.Need-returns-18
 unfolding row
 returns-18 c = search needs
 
--- src/children.rt:14:1
 returns-19 : tie.Need-returns-19
 unfolding row
-returns-19 c = let e : 18 ≡ (c .before .args) .kind = omega (arith, none-of ((c .before .args) .kind) 18 ((c .match) .rest)) in ap (λ (k : ℕ). codeOf (row k)) e
+returns-19 c =
+    let args′ = c .before .args in
+    let e : 18 ≡ args′ .kind = omega (arith, none-of (args′ .kind) 18 (c .match .rest)) in ap (λ (k : ℕ). codeOf (row k)) e
 
 pub code-spec : {M : Type 1} → statement M
 code-spec =

@@ -1,10 +1,8 @@
--- HEAD
 -- Number 9: the levels left fall with each call, and what is left of the part with each turn.
 use native.Mathlib.Omega.{arith}
 use lib.ListN.{length}
 use Rattle.base.specs.Says.{says-true, says-false}
 use Rattle.judge.proofs.Deep.{Deep, deep-all, deep-end, deep-none, deep-size, deep-kids, deep-under, deep-more}
--- END
 use Prim.Native.Nat.{ℕ, _<_}
 use borrow.Fn.Kinds.{In}
 use borrow.Fn.PlainCycle.{Measures, is, falls, and}
@@ -33,73 +31,80 @@ deeper-μ-loop t left u₀ u = length u
 abbrev deeper-calls : ℕ → deeper-lts.Claims
 deeper-calls t = (size-reads.Asked, size-reads.Learnt, deeper-below t, deeper.Post)
 
--- src/depth.rt:15:5
 deeper-loop-holds : (t : ℕ) → deeper-lts.Need-loop-holds (deeper-calls t) (deeper-at t) deeper.Post deeper-Inv-loop deeper-μ-loop
-deeper-loop-holds t c = deep-all _ ((c .before .pre) .1 .0)
+deeper-loop-holds t c = deep-all _ (c .before .pre .1 .0)
 
--- src/depth.rt:15:21
 deeper-mul-loop : (t : ℕ) → deeper-lts.Need-mul-loop (deeper-calls t) (deeper-at t) deeper.Post deeper-Inv-loop deeper-μ-loop
 deeper-mul-loop t c = omega arith
 
--- src/depth.rt:17:13
 deeper-returns : (t : ℕ) → deeper-lts.Need-returns (deeper-calls t) (deeper-at t) deeper.Post deeper-Inv-loop deeper-μ-loop
-deeper-returns t c = deep-none ((c .before .before .loop) .inv) (omega arith) ((c .if1) .taken)
+deeper-returns t c = deep-none (c .before .before .loop .inv) (omega arith) (c .if1 .taken)
 
--- src/depth.rt:19:23
 deeper-size-requires : (t : ℕ) → deeper-lts.Need-size-requires (deeper-calls t) (deeper-at t) deeper.Post deeper-Inv-loop deeper-μ-loop
 deeper-size-requires t c κs = tt
 
--- src/depth.rt:19:19
 deeper-mul-end : (t : ℕ) → deeper-lts.Need-mul-end (deeper-calls t) (deeper-at t) deeper.Post deeper-Inv-loop deeper-μ-loop
-deeper-mul-end t c = omega (arith, (c .size) .ensures .below)
+deeper-mul-end t c = omega (arith, c .size .ensures .below)
 
--- src/depth.rt:20:19
 deeper-sub-deeper : (t : ℕ) → deeper-lts.Need-sub-deeper (deeper-calls t) (deeper-at t) deeper.Post deeper-Inv-loop deeper-μ-loop
-deeper-sub-deeper t c = omega (arith, (deep-size ((c .before .before .before .loop) .inv) (omega arith) ((c .size) .ensures .is)))
+deeper-sub-deeper t c =
+    let sizes′ = deep-size (c .before .before .before .loop .inv) (omega arith) (c .size .ensures .is) in
+    omega (arith, sizes′)
 
--- src/depth.rt:20:19
 deeper-part-deeper-start : (t : ℕ) → deeper-lts.Need-part-deeper-start (deeper-calls t) (deeper-at t) deeper.Post deeper-Inv-loop deeper-μ-loop
-deeper-part-deeper-start t c = omega (arith, (deep-size ((c .before .before .before .loop) .inv) (omega arith) ((c .size) .ensures .is)))
+deeper-part-deeper-start t c =
+    let sizes′ = deep-size (c .before .before .before .loop .inv) (omega arith) (c .size .ensures .is) in
+    omega (arith, sizes′)
 
--- src/depth.rt:20:19
 deeper-part-deeper-end : (t : ℕ) → deeper-lts.Need-part-deeper-end (deeper-calls t) (deeper-at t) deeper.Post deeper-Inv-loop deeper-μ-loop
-deeper-part-deeper-end t c = omega (arith, (deep-size ((c .before .before .before .loop) .inv) (omega arith) ((c .size) .ensures .is)))
+deeper-part-deeper-end t c =
+    let sizes′ = deep-size (c .before .before .before .loop .inv) (omega arith) (c .size .ensures .is) in
+    omega (arith, sizes′)
 
--- src/depth.rt:20:31
 deeper-sub-deeper-2 : (t : ℕ) → deeper-lts.Need-sub-deeper-2 (deeper-calls t) (deeper-at t) deeper.Post deeper-Inv-loop deeper-μ-loop
 deeper-sub-deeper-2 t c = omega arith
 
--- src/depth.rt:20:12
 deeper-deeper-requires : (t : ℕ) → deeper-lts.Need-deeper-requires (deeper-calls t) (deeper-at t) deeper.Post deeper-Inv-loop deeper-μ-loop
-deeper-deeper-requires t c κs = (omega (arith, (c .before .before .before .before .before .before .pre) .0), (deep-kids ((c .before .before .before .before .loop) .inv) (omega arith) ((c .before .size) .ensures .is), omega arith))
+deeper-deeper-requires t c κs =
+    let pre′ = c .before .before .before .before .before .before .pre in
+    (omega (arith, pre′ .0), (deep-kids (c .before .before .before .before .loop .inv) (omega arith) (c .before .size .ensures .is), omega arith))
 
--- src/depth.rt:21:13
 deeper-returns-2 : (t : ℕ) → deeper-lts.Need-returns-2 (deeper-calls t) (deeper-at t) deeper.Post deeper-Inv-loop deeper-μ-loop
-deeper-returns-2 t c = deep-under ((c .before .before .before .before .before .before .loop) .inv) (omega arith) ((c .before .before .before .size) .ensures .is) (omega arith) (λ at g r. says-true ((c .if2) .taken) ((c .before .deeper) .ensures at g r))
+deeper-returns-2 t c =
+    let loop′ = c .before .before .before .before .before .before .loop in
+    deep-under (loop′ .inv) (omega arith) (c .before .before .before .size .ensures .is) (omega arith) (λ at g r. says-true (c .if2 .taken) (c .before .deeper .ensures at g r))
 
--- src/depth.rt:23:13
 deeper-sub-u : (t : ℕ) → deeper-lts.Need-sub-u (deeper-calls t) (deeper-at t) deeper.Post deeper-Inv-loop deeper-μ-loop
-deeper-sub-u t c = omega (arith, (deep-size ((c .before .before .before .before .before .before .loop) .inv) (omega arith) ((c .before .before .before .size) .ensures .is)))
+deeper-sub-u t c =
+    let loop′ = c .before .before .before .before .before .before .loop in
+    let sizes′ = deep-size (loop′ .inv) (omega arith) (c .before .before .before .size .ensures .is) in
+    omega (arith, sizes′)
 
--- src/depth.rt:23:13
 deeper-part-u-start : (t : ℕ) → deeper-lts.Need-part-u-start (deeper-calls t) (deeper-at t) deeper.Post deeper-Inv-loop deeper-μ-loop
-deeper-part-u-start t c = omega (arith, (deep-size ((c .before .before .before .before .before .before .loop) .inv) (omega arith) ((c .before .before .before .size) .ensures .is)))
+deeper-part-u-start t c =
+    let loop′ = c .before .before .before .before .before .before .loop in
+    let sizes′ = deep-size (loop′ .inv) (omega arith) (c .before .before .before .size .ensures .is) in
+    omega (arith, sizes′)
 
--- src/depth.rt:23:13
 deeper-part-u-end : (t : ℕ) → deeper-lts.Need-part-u-end (deeper-calls t) (deeper-at t) deeper.Post deeper-Inv-loop deeper-μ-loop
-deeper-part-u-end t c = omega (arith, (deep-size ((c .before .before .before .before .before .before .loop) .inv) (omega arith) ((c .before .before .before .size) .ensures .is)))
+deeper-part-u-end t c =
+    let loop′ = c .before .before .before .before .before .before .loop in
+    let sizes′ = deep-size (loop′ .inv) (omega arith) (c .before .before .before .size .ensures .is) in
+    omega (arith, sizes′)
 
--- src/depth.rt:15:5
 deeper-loop-less : (t : ℕ) → deeper-lts.Need-loop-less (deeper-calls t) (deeper-at t) deeper.Post deeper-Inv-loop deeper-μ-loop
-deeper-loop-less t c = omega (arith, (deep-size ((c .before .before .before .before .before .before .before .loop) .inv) (omega arith) ((c .before .before .before .before .size) .ensures .is)))
+deeper-loop-less t c =
+    let loop′ = c .before .before .before .before .before .before .before .loop in
+    let sizes′ = deep-size (loop′ .inv) (omega arith) (c .before .before .before .before .size .ensures .is) in
+    omega (arith, sizes′)
 
--- src/depth.rt:15:5
 deeper-loop-again : (t : ℕ) → deeper-lts.Need-loop-again (deeper-calls t) (deeper-at t) deeper.Post deeper-Inv-loop deeper-μ-loop
-deeper-loop-again t c = deep-more ((c .before .before .before .before .before .before .before .loop) .inv) (omega arith) ((c .before .before .before .before .size) .ensures .is) (omega arith) (λ at g r. says-false ((c .before .if2) .left) ((c .before .before .deeper) .ensures at g r))
+deeper-loop-again t c =
+    let loop′ = c .before .before .before .before .before .before .before .loop in
+    deep-more (loop′ .inv) (omega arith) (c .before .before .before .before .size .ensures .is) (omega arith) (λ at g r. says-false (c .before .if2 .left) (c .before .before .deeper .ensures at g r))
 
--- src/depth.rt:10:1
 deeper-returns-3 : (t : ℕ) → deeper-lts.Need-returns-3 (deeper-calls t) (deeper-at t) deeper.Post deeper-Inv-loop deeper-μ-loop
-deeper-returns-3 t c = deep-end ((c .before .loop) .inv) (omega arith)
+deeper-returns-3 t c = deep-end (c .before .loop .inv) (omega arith)
 
 pub +deeper-spec : {M : Type 1} → statement M
 +deeper-spec = close μ-deeper λ t. deeper-lts.spec (deeper-calls t) (deeper-at t) deeper.Post

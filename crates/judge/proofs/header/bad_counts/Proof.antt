@@ -1,64 +1,43 @@
--- HEAD
 -- Number 3.
 use native.Mathlib.Omega.{arith}
 use Rattle.judge.specs.Header.{no-nodes, many-nodes, many-names, many-entries, many-globals, large-pool}
--- END
 use borrow.Author.Needs.{needs}
 use Rattle.judge.proofs.header.bad_counts.Statement.{statement}
 use Rattle.judge.proofs.header.bad_counts.Tie as tie
-use Rattle.judge.proofs.header.bad_counts.Reads as reads
-use Rattle.judge.proofs.header.bad_counts.Lts as lts
-use Rattle.nodefile.proofs.entry_count.Reads as entry-count-reads
-use Rattle.nodefile.proofs.global_count.Reads as global-count-reads
-use Rattle.nodefile.proofs.name_count.Reads as name-count-reads
-use Rattle.nodefile.proofs.node_count.Reads as node-count-reads
-use Rattle.nodefile.proofs.pool_bytes.Reads as pool-bytes-reads
 
--- src/header.rt:23:9
 node-count-requires : tie.Need-node-count-requires
 node-count-requires c κs = search needs
 
--- src/header.rt:25:9
 returns : tie.Need-returns
 returns c = no-nodes (omega arith)
 
--- src/header.rt:28:9
 returns-2 : tie.Need-returns-2
 returns-2 c = many-nodes (omega arith)
 
--- src/header.rt:30:8
 name-count-requires : tie.Need-name-count-requires
 name-count-requires c κs = search needs
 
--- src/header.rt:31:9
 returns-3 : tie.Need-returns-3
 returns-3 c = many-names (omega arith)
 
--- src/header.rt:33:8
 entry-count-requires : tie.Need-entry-count-requires
 entry-count-requires c κs = search needs
 
--- src/header.rt:34:9
 returns-4 : tie.Need-returns-4
 returns-4 c = many-entries (omega arith)
 
--- src/header.rt:36:8
 global-count-requires : tie.Need-global-count-requires
 global-count-requires c κs = search needs
 
--- src/header.rt:37:9
 returns-5 : tie.Need-returns-5
 returns-5 c = many-globals (omega arith)
 
--- src/header.rt:39:8
 pool-bytes-requires : tie.Need-pool-bytes-requires
 pool-bytes-requires c κs = search needs
 
--- src/header.rt:40:9
 returns-6 : tie.Need-returns-6
 returns-6 c = large-pool (omega arith)
 
--- src/header.rt:20:1
 returns-7 : tie.Need-returns-7
 returns-7 c = λ f. elim f [ no-nodes h ↦ omega arith | many-nodes h ↦ omega arith | many-names h ↦ omega arith | many-entries h ↦ omega arith | many-globals h ↦ omega arith | large-pool h ↦ omega arith ]
 

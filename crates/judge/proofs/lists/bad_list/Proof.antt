@@ -1,15 +1,10 @@
--- HEAD
 -- Number 6 of one list: the marks are those of the lines passed.
 use Prim.Native.Nat.{_-_, _≤_}
 use native.Mathlib.Omega.{arith}
 use Rattle.judge.specs.Inside.Line.{lineOf}
 use Rattle.judge.proofs.Marks.{Lines, lines-none, lines-more, lines-twice, lines-all, lines-unknown}
--- END
 use Rattle.judge.proofs.lists.bad_list.Statement.{statement}
 use Rattle.judge.proofs.lists.bad_list.Tie as tie
-use Rattle.judge.proofs.lists.bad_list.Reads as reads
-use Rattle.judge.proofs.lists.bad_list.Lts as lts
-use Rattle.judge.proofs.lists.line.Reads as line-reads
 
 abbrev Inv-loop : tie.InvT-loop
 Inv-loop part entries n names seen₀ k₀ seen k = (k ≤ n) × Lines names seen (lineOf part entries) k
@@ -17,45 +12,35 @@ Inv-loop part entries n names seen₀ k₀ seen k = (k ≤ n) × Lines names see
 abbrev μ-loop : tie.MeasureT-loop
 μ-loop part entries n names seen₀ k₀ seen k = n - k
 
--- src/lists.rt:27:5
 loop-holds : tie.Need-loop-holds Inv-loop μ-loop
 loop-holds c = (omega arith, lines-none _ _)
 
--- src/lists.rt:28:13
 line-requires : tie.Need-line-requires Inv-loop μ-loop
 line-requires c κs = omega arith
 
--- src/lists.rt:30:13
 returns : tie.Need-returns Inv-loop μ-loop
-returns c = lines-unknown _ ((c .before .before .before .loop) .k) _ ((c .before .line) .ensures) (omega arith) (omega arith)
+returns c = lines-unknown _ (c .before .before .before .loop .k) _ (c .before .line .ensures) (omega arith) (omega arith)
 
--- src/lists.rt:33:12
 array-read-if2 : tie.Need-array-read-if2 Inv-loop μ-loop
-array-read-if2 c = omega (arith, (c .before .before .before .loop) .inv .1 .size)
+array-read-if2 c = omega (arith, c .before .before .before .loop .inv .1 .size)
 
--- src/lists.rt:34:13
 returns-2 : tie.Need-returns-2 Inv-loop μ-loop
-returns-2 c = lines-twice ((c .before .before .before .before .loop) .inv .1) _ ((c .before .before .line) .ensures) (omega arith) ((c .if2) .taken)
+returns-2 c = lines-twice (c .before .before .before .before .loop .inv .1) _ (c .before .before .line .ensures) (omega arith) (c .if2 .taken)
 
--- src/lists.rt:36:9
 array-write-seen : tie.Need-array-write-seen Inv-loop μ-loop
-array-write-seen c = omega (arith, (c .before .before .before .before .loop) .inv .1 .size)
+array-write-seen c = omega (arith, c .before .before .before .before .loop .inv .1 .size)
 
--- src/lists.rt:37:9
 add-k : tie.Need-add-k Inv-loop μ-loop
 add-k c = omega arith
 
--- src/lists.rt:27:5
 loop-less : tie.Need-loop-less Inv-loop μ-loop
 loop-less c = omega arith
 
--- src/lists.rt:27:5
 loop-again : tie.Need-loop-again Inv-loop μ-loop
-loop-again c = (omega arith, lines-more ((c .before .before .before .before .loop) .inv .1) ((c .before .before .line) .ensures) (omega arith) (omega arith) ((c .if2) .left))
+loop-again c = (omega arith, lines-more (c .before .before .before .before .loop .inv .1) (c .before .before .line .ensures) (omega arith) (omega arith) (c .if2 .left))
 
--- src/lists.rt:21:1
 returns-3 : tie.Need-returns-3 Inv-loop μ-loop
-returns-3 c = lines-all ((c .before .loop) .inv .1) _ (omega arith)
+returns-3 c = lines-all (c .before .loop .inv .1) _ (omega arith)
 
 pub bad-list-spec : {M : Type 1} → statement M
 bad-list-spec =

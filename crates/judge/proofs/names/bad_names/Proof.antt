@@ -1,4 +1,3 @@
--- HEAD
 -- Number 5: the names passed are good, and stand on their chains.
 use Prim.Native.Nat.{_-_, _≤_}
 use mathlib.Core.Path.{sym, ap, _∙_}
@@ -7,17 +6,8 @@ use Rattle.base.specs.Says.{says-true, says-false}
 use Rattle.judge.specs.Names.{empty, past-pool}
 use Rattle.judge.specs.Inside.Chain.{hashOf}
 use Rattle.judge.proofs.Chains.{Chained, chained-none, chained-all, chained-met, chained-more, met-as}
--- END
 use Rattle.judge.proofs.names.bad_names.Statement.{statement}
 use Rattle.judge.proofs.names.bad_names.Tie as tie
-use Rattle.judge.proofs.names.bad_names.Reads as reads
-use Rattle.judge.proofs.names.bad_names.Lts as lts
-use Rattle.judge.proofs.names.hash.Reads as hash-reads
-use Rattle.judge.proofs.names.link.Reads as link-reads
-use Rattle.judge.proofs.names.met.Reads as met-reads
-use Rattle.nodefile.proofs.name_length.Reads as name-length-reads
-use Rattle.nodefile.proofs.name_offset.Reads as name-offset-reads
-use Rattle.nodefile.proofs.spelled.Reads as spelled-reads
 
 abbrev Inv-loop : tie.InvT-loop
 Inv-loop nm pool n heads₀ links₀ j₀ heads links j = (j ≤ n) × Chained nm pool heads links j
@@ -25,93 +15,87 @@ Inv-loop nm pool n heads₀ links₀ j₀ heads links j = (j ≤ n) × Chained n
 abbrev μ-loop : tie.MeasureT-loop
 μ-loop nm pool n heads₀ links₀ j₀ heads links j = n - j
 
--- src/names.rt:57:5
 loop-holds : tie.Need-loop-holds Inv-loop μ-loop
 loop-holds c = (omega arith, chained-none _ _)
 
--- src/names.rt:58:13
 name-offset-requires : tie.Need-name-offset-requires Inv-loop μ-loop
 name-offset-requires c κs = omega arith
 
--- src/names.rt:59:13
 name-length-requires : tie.Need-name-length-requires Inv-loop μ-loop
 name-length-requires c κs = omega arith
 
--- src/names.rt:61:13
 returns : tie.Need-returns Inv-loop μ-loop
-returns c = empty ((c .before .before .before .before .loop) .j) (omega arith) (omega (arith, (c .before .name-length) .ensures .is))
+returns c = empty (c .before .before .before .before .loop .j) (omega arith) (omega (arith, c .before .name-length .ensures .is))
 
--- src/names.rt:63:12
 add-if2 : tie.Need-add-if2 Inv-loop μ-loop
 add-if2 c = omega arith
 
--- src/names.rt:64:13
 returns-2 : tie.Need-returns-2 Inv-loop μ-loop
-returns-2 c = past-pool ((c .before .before .before .before .before .loop) .j) (omega arith) (omega (arith, (c .before .before .before .name-offset) .ensures .is, (c .before .before .name-length) .ensures .is))
+returns-2 c =
+    let loop′ = c .before .before .before .before .before .loop in
+    past-pool (loop′ .j) (omega arith) (omega (arith, c .before .before .before .name-offset .ensures .is, c .before .before .name-length .ensures .is))
 
--- src/names.rt:66:13
 spelled-requires : tie.Need-spelled-requires Inv-loop μ-loop
 spelled-requires c κs = omega arith
 
--- src/names.rt:67:13
 hash-requires : tie.Need-hash-requires Inv-loop μ-loop
 hash-requires c κs = omega arith
 
--- src/names.rt:68:20
 mul-from : tie.Need-mul-from Inv-loop μ-loop
 mul-from c = omega arith
 
--- src/names.rt:68:20
 array-read-from : tie.Need-array-read-from Inv-loop μ-loop
 array-read-from c = omega arith
 
--- src/names.rt:69:34
 link-requires : tie.Need-link-requires Inv-loop μ-loop
 link-requires c κs = omega arith
 
--- src/names.rt:69:12
 met-requires : tie.Need-met-requires Inv-loop μ-loop
-met-requires c κs = ((c .before .before .before .before .before .before .before .before .before .loop) .inv .1 .linked, omega (arith, (c .link) .ensures, (c .before .before .before .before .before .before .before .before .before .loop) .inv .1 .low ((c .before .before .hash) .result)))
+met-requires c κs =
+    let loop′ = c .before .before .before .before .before .before .before .before .before .loop in
+    (loop′ .inv .1 .linked, omega (arith, c .link .ensures, loop′ .inv .1 .low (c .before .before .hash .result)))
 
--- src/names.rt:70:13
 returns-3 : tie.Need-returns-3 Inv-loop μ-loop
-returns-3 c = chained-met ((c .before .before .before .before .before .before .before .before .before .before .before .loop) .inv .1) ((c .before .before .before .before .hash) .result) ((c .before .before .before .before .hash) .ensures .0 ∙ ap hashOf ((c .before .before .before .before .before .spelled) .ensures)) (omega arith) (omega arith) (omega arith) (met-as ((c .before .before .link) .ensures) ((c .before .before .before .before .before .spelled) .ensures) (says-true ((c .if3) .taken) ((c .before .met) .ensures)))
+returns-3 c =
+    let loop′ = c .before .before .before .before .before .before .before .before .before .before .before .loop in
+    let hash′ = c .before .before .before .before .hash in
+    let spelled′ = c .before .before .before .before .before .spelled in
+    let numbered′ = hash′ .ensures .0 ∙ ap hashOf (spelled′ .ensures) in
+    chained-met (loop′ .inv .1) (hash′ .result) numbered′ (omega arith) (omega arith) (omega arith) (met-as (c .before .before .link .ensures) (spelled′ .ensures) (says-true (c .if3 .taken) (c .before .met .ensures)))
 
--- src/names.rt:72:9
 mul-links : tie.Need-mul-links Inv-loop μ-loop
 mul-links c = omega arith
 
--- src/names.rt:72:9
 array-write-links : tie.Need-array-write-links Inv-loop μ-loop
 array-write-links c = omega arith
 
--- src/names.rt:73:9
 add-j : tie.Need-add-j Inv-loop μ-loop
 add-j c = omega arith
 
--- src/names.rt:74:20
 cast-heads : tie.Need-cast-heads Inv-loop μ-loop
 cast-heads c = omega arith
 
--- src/names.rt:74:9
 mul-heads : tie.Need-mul-heads Inv-loop μ-loop
 mul-heads c = omega arith
 
--- src/names.rt:74:9
 array-write-heads : tie.Need-array-write-heads Inv-loop μ-loop
 array-write-heads c = omega arith
 
--- src/names.rt:57:5
 loop-less : tie.Need-loop-less Inv-loop μ-loop
 loop-less c = omega arith
 
--- src/names.rt:57:5
 loop-again : tie.Need-loop-again Inv-loop μ-loop
-loop-again c = (omega arith, chained-more ((c .before .before .before .before .before .before .before .before .before .before .before .loop) .inv .1) ((c .before .before .before .before .hash) .result) ((c .before .before .before .before .hash) .ensures .0 ∙ ap hashOf ((c .before .before .before .before .before .spelled) .ensures)) (omega arith) (omega arith) (omega (arith, (c .before .before .before .before .before .before .before .before .name-length) .ensures .is)) (omega (arith, (c .before .before .before .before .before .before .before .before .before .name-offset) .ensures .is, (c .before .before .before .before .before .before .before .before .name-length) .ensures .is)) (λ m. says-false ((c .if3) .left) ((c .before .met) .ensures) (met-as (sym ((c .before .before .link) .ensures)) (sym ((c .before .before .before .before .before .spelled) .ensures)) m)))
+loop-again c =
+    let loop′ = c .before .before .before .before .before .before .before .before .before .before .before .loop in
+    let hash′ = c .before .before .before .before .hash in
+    let name-length′ = c .before .before .before .before .before .before .before .before .name-length in
+    let name-offset′ = c .before .before .before .before .before .before .before .before .before .name-offset in
+    let spelled′ = c .before .before .before .before .before .spelled in
+    let numbered′ = hash′ .ensures .0 ∙ ap hashOf (spelled′ .ensures) in
+    (omega arith, chained-more (loop′ .inv .1) (hash′ .result) numbered′ (omega arith) (omega arith) (omega (arith, name-length′ .ensures .is)) (omega (arith, name-offset′ .ensures .is, name-length′ .ensures .is)) (λ m. says-false (c .if3 .left) (c .before .met .ensures) (met-as (sym (c .before .before .link .ensures)) (sym (spelled′ .ensures)) m)))
 
--- src/names.rt:50:1
 returns-4 : tie.Need-returns-4 Inv-loop μ-loop
-returns-4 c = chained-all ((c .before .loop) .inv .1) (omega arith)
+returns-4 c = chained-all (c .before .loop .inv .1) (omega arith)
 
 pub bad-names-spec : {M : Type 1} → statement M
 bad-names-spec =

@@ -1,15 +1,10 @@
--- HEAD
 -- A part falls into nodes if what is left of it after each of them does.
 use native.Mathlib.Omega.{arith}
 use lib.ListN.{length}
 use Rattle.nodefile.specs.Kids.{Fits}
 use Rattle.judge.proofs.Fitting.{fits-none, fits-first, fits-on, fits-back}
--- END
 use Rattle.judge.proofs.nodes.kids_fit.Statement.{statement}
 use Rattle.judge.proofs.nodes.kids_fit.Tie as tie
-use Rattle.judge.proofs.nodes.kids_fit.Reads as reads
-use Rattle.judge.proofs.nodes.kids_fit.Lts as lts
-use Rattle.nodefile.proofs.size.Reads as size-reads
 
 abbrev Inv-loop : tie.InvT-loop
 Inv-loop kids t₀ t = (Fits t → Fits kids) × (Fits kids → Fits t)
@@ -17,53 +12,44 @@ Inv-loop kids t₀ t = (Fits t → Fits kids) × (Fits kids → Fits t)
 abbrev μ-loop : tie.MeasureT-loop
 μ-loop kids t₀ t = length t
 
--- src/nodes.rt:12:5
 loop-holds : tie.Need-loop-holds Inv-loop μ-loop
 loop-holds c = (λ f. f, λ f. f)
 
--- src/nodes.rt:13:20
 size-requires : tie.Need-size-requires Inv-loop μ-loop
 size-requires c κs = omega arith
 
--- src/nodes.rt:15:13
 returns : tie.Need-returns Inv-loop μ-loop
-returns c = λ f. omega (arith, fits-first ((c .before .before .before .loop) .inv .1 f) (omega arith), (c .before .size) .ensures .is)
+returns c = λ f. omega (arith, fits-first (c .before .before .before .loop .inv .1 f) (omega arith), c .before .size .ensures .is)
 
--- src/nodes.rt:17:19
 mul-end : tie.Need-mul-end Inv-loop μ-loop
 mul-end c = omega arith
 
--- src/nodes.rt:19:13
 returns-2 : tie.Need-returns-2 Inv-loop μ-loop
-returns-2 c = λ f. omega (arith, fits-first ((c .before .before .before .before .loop) .inv .1 f) (omega arith), (c .before .before .size) .ensures .is)
+returns-2 c = λ f. omega (arith, fits-first (c .before .before .before .before .loop .inv .1 f) (omega arith), c .before .before .size .ensures .is)
 
--- src/nodes.rt:21:13
 sub-t : tie.Need-sub-t Inv-loop μ-loop
 sub-t c = omega arith
 
--- src/nodes.rt:21:13
 part-t-start : tie.Need-part-t-start Inv-loop μ-loop
 part-t-start c = omega arith
 
--- src/nodes.rt:21:13
 part-t-end : tie.Need-part-t-end Inv-loop μ-loop
 part-t-end c = omega arith
 
--- src/nodes.rt:12:5
 loop-less : tie.Need-loop-less Inv-loop μ-loop
 loop-less c = omega arith
 
--- src/nodes.rt:12:5
 loop-again : tie.Need-loop-again Inv-loop μ-loop
-loop-again c = (λ f. (c .before .before .before .before .before .loop) .inv .0 (fits-back ((c .before .before .before .before .before .loop) .t .now) ((c .before .before .before .size) .ensures .is) (omega arith) (omega arith) f), λ f. fits-on ((c .before .before .before .before .before .loop) .t .now) ((c .before .before .before .size) .ensures .is) (omega arith) ((c .before .before .before .before .before .loop) .inv .1 f))
+loop-again c =
+    let loop′ = c .before .before .before .before .before .loop in
+    let size′ = c .before .before .before .size in
+    (λ f. loop′ .inv .0 (fits-back (loop′ .t .now) (size′ .ensures .is) (omega arith) (omega arith) f), λ f. fits-on (loop′ .t .now) (size′ .ensures .is) (omega arith) (loop′ .inv .1 f))
 
--- src/nodes.rt:24:9
 returns-3 : tie.Need-returns-3 Inv-loop μ-loop
-returns-3 c = (c .before .before .loop) .inv .0 (fits-none _ (omega arith))
+returns-3 c = c .before .before .loop .inv .0 (fits-none _ (omega arith))
 
--- src/nodes.rt:8:1
 returns-4 : tie.Need-returns-4 Inv-loop μ-loop
-returns-4 c = λ f. omega (arith, fits-first ((c .before .before .loop) .inv .1 f) (omega arith))
+returns-4 c = λ f. omega (arith, fits-first (c .before .before .loop .inv .1 f) (omega arith))
 
 pub kids-fit-spec : {M : Type 1} → statement M
 kids-fit-spec =

@@ -1,20 +1,14 @@
--- HEAD
 -- Which kinds have a scope number.
 use mathlib.Core.Path.{sym}
 use Rattle.judge.proofs.Values.{is-scope, is-neither}
--- END
 use Rattle.judge.proofs.scopes.is_scope.Statement.{statement}
 use Rattle.judge.proofs.scopes.is_scope.Tie as tie
-use Rattle.judge.proofs.scopes.is_scope.Reads as reads
-use Rattle.judge.proofs.scopes.is_scope.Lts as lts
 
--- src/scopes.rt:11:1
 returns : tie.Need-returns
-returns c = sym (is-scope _ ((c .match) .keys1))
+returns c = sym (is-scope _ (c .match .keys1))
 
--- src/scopes.rt:11:1
 returns-2 : tie.Need-returns-2
-returns-2 c = sym (is-neither _ ((c .match) .rest .1))
+returns-2 c = sym (is-neither _ (c .match .rest .1))
 
 pub is-scope-spec : {M : Type 1} → statement M
 is-scope-spec = tie.close (tie.spec returns returns-2)
