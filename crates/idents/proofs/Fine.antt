@@ -9,7 +9,7 @@ use native.Mathlib.Decide.{ℕ-discrete}
 use native.Mathlib.Nat.{le-max-left, le-max-right, max-le}
 use lib.ListN.{length}
 use Rattle.lexical.specs.Places.{In, Distinct, in-left, in-right, distinct-left, distinct-right}
-use Rattle.lexical.specs.Tree.{Forest, nil, node, scopesIn, _⊕_}
+use Rattle.lexical.specs.Tree.{Forest, nil, node, scopesIn, _⊕_, listed}
 use Rattle.lexical.specs.Code.Nodes.{scopes-def, scopes-lambda, scopes-others}
 use Rattle.nodefile.specs.Height.{height}
 use Rattle.store.specs.Valid.{Valid}
@@ -47,7 +47,7 @@ height-back (node a k v kids rest) g = omega (arith, height-back rest g, le-max-
 -- ---- scopes
 
 scopes-nil : scopesIn nil ≡ []
-unfolding scopesIn
+unfolding scopesIn listed
 scopes-nil = refl
 
 -- a node's own scopes, before those below it and after it
