@@ -1,0 +1,9 @@
+pub mod Buffers
+pub mod Packed
+pub mod Filled
+pub mod Copied
+pub mod Ready
+pub mod Walks
+pub mod Answer
+pub mod Accepted
+pub mod Laws
