@@ -1,16 +1,16 @@
 -- How judging comes to its answer: what each test said of a part, said of the file.
-use Prim.Native.Nat.{ℕ, _+_, _*_, _%_, _≤_, _<_}
-use mathlib.Core.Path.{_≡_, refl, sym, ap, _∙_, subst}
+use Prim.Native.Nat.{ℕ, _%_, _≤_, _<_}
+use mathlib.Core.Path.{_≡_, ap, _∙_, subst}
 use mathlib.Core.Bool.{Bool, true, false}
 use mathlib.Core.List.{List}
 use native.Mathlib.Omega.{arith}
 use lib.ListN.{length, replicate, length-replicate}
 use Rattle.base.specs.Says.{Says}
-use Rattle.base.specs.Smallest.{Clear, clear-none, clear-more}
+use Rattle.base.specs.Smallest.{Clear}
 use Rattle.lexical.specs.Tree.{Forest}
-use Rattle.nodefile.specs.Layout.{nameCount, nodeCount, entryCount, globalCount, nodesOf, nodes-length}
+use Rattle.nodefile.specs.Layout.{nameCount, nodesOf, nodes-length}
 use Rattle.nodefile.specs.Reads.{Reads, reads-one}
-use Rattle.nodefile.specs.Trees.{Whole, tree}
+use Rattle.nodefile.specs.Trees.{tree}
 use Rattle.judge.specs.Header.{HeaderOk, header-ok}
 use Rattle.judge.specs.Lists.{entryNames, globalNames, BadList, BadLists, bad-entry, bad-global}
 use Rattle.judge.specs.Nodes.{Sound}
@@ -20,10 +20,6 @@ use Rattle.judge.specs.Cond.{Cond}
 use Rattle.judge.specs.Inside.Held.{Held}
 use Rattle.judge.specs.Inside.Found.{Unset}
 use Rattle.judge.proofs.Marks.{zeros}
-
--- numbers 0 and 1 have no condition
-pub clear-2 : (bs : List ℕ) → Clear (Cond bs) 2
-clear-2 bs = clear-more 1 (clear-more 0 (clear-none (Cond bs)) (λ x. x)) (λ x. x)
 
 pub header-clear : {bs : List ℕ} (k : ℕ) → 5 ≤ k → Clear (Cond bs) k → HeaderOk bs
 header-clear {bs} k l c = header-ok bs (c 2 (omega arith)) (c 3 (omega arith)) (c 4 (omega arith))

@@ -1,8 +1,8 @@
 -- Number 8: a walk over the children of a node, with what is left of the row of its kind.
-use Prim.Native.Nat.{ℕ, _+_, _-_, _*_, _/_, _%_, _≤_, _<_}
+use Prim.Native.Nat.{ℕ, _-_, _*_, _/_, _%_, _≤_, _<_}
 use mathlib.Core.Path.{_≡_, refl, sym, ap, _∙_, subst}
 use mathlib.Core.Bool.{true, false, _&&_}
-use mathlib.Core.List.{List, [], _∷_}
+use mathlib.Core.List.{List, _∷_}
 use native.Mathlib.Omega.{arith}
 use borrow.Author.Tests.{eq-eqb, ne-eqb}
 use lib.Dec.{eqb}
@@ -10,7 +10,7 @@ use lib.ListN.{length, take, drop}
 use Rattle.lexical.specs.Table.{Item, row, isEmpty, matches, allowed}
 use Rattle.nodefile.specs.Node.{kindOf, sizeOf}
 use Rattle.nodefile.specs.Kids.{Kids, no-kids, kid, Fits, kids-cons, kids-none}
-use Rattle.judge.specs.Inside.Code.{needed, codeOf, restOf, Coded}
+use Rattle.judge.specs.Inside.Code.{codeOf, restOf, Coded}
 use Rattle.judge.proofs.Rows.{matches-rest, matches-none, allowed-row, allowed-other, allowed-bare, not-bare}
 use Rattle.judge.proofs.Codes.{row-small, small-rest, need-is}
 use Rattle.judge.proofs.Fitting.{rest-is}

@@ -1,19 +1,19 @@
 -- Number 7: from what each node's own test says to what the document says of the list, and back.
 use Prim.Native.Nat.{ℕ, zero, suc, _+_, _-_, _*_, _≤_, _<_}
-use mathlib.Core.Path.{_≡_, refl, sym, ap, _∙_, subst}
+use mathlib.Core.Path.{_≡_, sym, ap, _∙_, subst}
 use mathlib.Core.Logic.{_⊎_, inl, inr}
 use mathlib.Core.List.{List, [], _∷_}
 use native.Mathlib.Omega.{arith}
-use native.Mathlib.Decide.{decLt, decLe, ℕ-discrete}
+use native.Mathlib.Decide.{decLe, ℕ-discrete}
 use lib.ListN.{length, take, drop, length-drop}
 use Rattle.base.specs.Parts.{part-from}
 use Rattle.nodefile.specs.Node.{sizeOf, below}
-use Rattle.nodefile.specs.Kids.{Kids, no-kids, kid, Fits, kids-first, fits-dec}
+use Rattle.nodefile.specs.Kids.{no-kids, kid, Fits, kids-first, fits-dec}
 use Rattle.nodefile.specs.Trees.{stretch, stretch-size, stretch-after, stretch-length, below-at}
 use Rattle.nodefile.specs.Nested.{endOf, Sized, nested}
 use Rattle.judge.specs.Header.{unless}
 use Rattle.judge.specs.Nodes.{at, BadNodes, high-kind, zero-bits-set, no-size, past-parent, root-size, no-such-name, stray-value}
-use Rattle.judge.specs.Inside.Node.{BadValue, no-name, no-value, BadNode, kind, zero-bits, value, size, past-list, misfit}
+use Rattle.judge.specs.Inside.Node.{no-name, no-value, BadNode, kind, zero-bits, value, size, past-list, misfit}
 
 -- ---- a part that falls into nodes, one node further
 

@@ -1,12 +1,12 @@
 -- The node that a loop over a sound list has come to.
-use Prim.Native.Nat.{ℕ, _+_, _-_, _*_, _%_, _≤_, _<_}
-use mathlib.Core.Path.{_≡_, refl, sym, ap, _∙_, subst}
+use Prim.Native.Nat.{ℕ, _-_, _*_, _≤_, _<_}
+use mathlib.Core.Path.{_≡_, sym, subst}
 use mathlib.Core.List.{List}
 use native.Mathlib.Omega.{arith}
 use lib.ListN.{length, take, drop, length-drop}
-use Rattle.nodefile.specs.Node.{kindOf, sizeOf, valueOf, below}
+use Rattle.nodefile.specs.Node.{kindOf, sizeOf, below}
 use Rattle.nodefile.specs.Kids.{Kids, Fits}
-use Rattle.judge.specs.Nodes.{at, Sound}
+use Rattle.judge.specs.Nodes.{Sound}
 use Rattle.judge.proofs.Pass.{Passed, passed-inside}
 use Rattle.judge.proofs.Fitting.{below-is}
 

@@ -1,37 +1,31 @@
 -- Number 11 asks for the names of Params by number: after 7 and 8 each Param's Name has one below the count of names.
 use Prim.Native.Nat.{ℕ, suc, _+_, _-_, _*_, _≤_, _<_}
-use mathlib.Core.Path.{_≡_, refl, sym, ap, _∙_, subst}
-use mathlib.Core.Bool.{Bool, true, false, _&&_, _||_, false≢true}
+use mathlib.Core.Path.{_≡_, sym, ap, _∙_, subst}
+use mathlib.Core.Bool.{true, _&&_}
 use mathlib.Core.Logic.{_⊎_, inl, inr}
-use mathlib.Core.List.{List, [], _∷_}
+use mathlib.Core.List.{List, _∷_}
 use native.Mathlib.Omega.{arith}
 use borrow.Author.Tests.{leb-true, eqb-true, ltb-true}
 use lib.Dec.{leb, eqb, ltb}
-use lib.ListN.{length, take, drop, length-drop}
-use lib.Seq.{drop-drop}
+use lib.ListN.{length, drop}
 use Rattle.bits.specs.FieldLaws.{field-take}
 use Rattle.lexical.specs.Places.{In}
 use Rattle.lexical.specs.Table.{row, within, headIn, isEmpty, matches, allowed}
 use Rattle.nodefile.specs.Node.{kindOf, sizeOf, valueOf, below}
-use Rattle.nodefile.specs.Kids.{Kids, kids-cons}
+use Rattle.nodefile.specs.Kids.{kids-cons}
 use Rattle.nodefile.specs.Trees.{stretch, stretch-length, stretch-size, stretch-after, below-at}
-use Rattle.nodefile.specs.Nested.{endOf}
 use Rattle.judge.specs.Header.{unless}
 use Rattle.judge.specs.Nodes.{at, hasName, BadNodes, no-such-name, Sound, sound}
 use Rattle.judge.specs.Children.{BadChildren, other-children}
 use Rattle.judge.specs.Params.{named, paramName, ParamNames, no-params, param, other}
-use Rattle.judge.specs.Inside.Found.{Scope}
-use Rattle.judge.specs.Inside.Naming.{Known, AllKnown}
+use Rattle.judge.specs.Laws.Decided.{holds}
+use Rattle.judge.specs.Inside.Naming.{AllKnown}
 use Rattle.judge.proofs.Codes.{both}
 
 -- a Param's first child is a Name
 param-first : (k : ℕ) (ks : List ℕ) → allowed 17 (k ∷ ks) ≡ true → k ≡ 8
 unfolding allowed row matches headIn within isEmpty
 param-first k ks e = let h = both (leb 8 k) (leb k 8) (both (leb 8 k && leb k 8) _ e .0) in omega (arith, leb-true 8 k (h .0), leb-true k 8 (h .1))
-
-holds : (b : Bool) → (b ≡ false → ⊥) → b ≡ true
-holds true n = refl
-holds false n = absurd (n refl)
 
 module _ (names : ℕ) (ns : List ℕ) (seven : BadNodes names ns → ⊥) (eight : BadChildren ns → ⊥) where
   ok : Sound ns

@@ -1,4 +1,5 @@
 pub mod Marks
+pub mod Lines
 pub mod Chains
 pub mod Pass
 pub mod Fitting

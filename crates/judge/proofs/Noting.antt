@@ -1,5 +1,5 @@
 -- Number 10: the scope numbers of the nodes passed, where each stands, how many they are, and the largest.
-use Prim.Native.Nat.{ℕ, zero, suc, _+_, _-_, _*_, _/_, _%_, _≤_, _<_, max}
+use Prim.Native.Nat.{ℕ, zero, _+_, _-_, _*_, _/_, _%_, _≤_, _<_, max}
 use mathlib.Core.Path.{_≡_, refl, sym, ap, _∙_, subst}
 use mathlib.Core.Bool.{Bool, true, false, cond, true≢false}
 use mathlib.Core.Logic.{_⊎_, inl, inr, ⊎-elim}
@@ -11,7 +11,7 @@ use borrow.Author.Count.{below-more}
 use lib.ListN.{length, getD, set, take, drop, length-append, length-drop, length-set}
 use lib.Seq.{drop-drop, getD-set-same, getD-set-other}
 use Rattle.base.specs.Parts.{part-from}
-use Rattle.base.specs.UpTo.{upTo}
+use Rattle.base.specs.UpTo.{upTo, upTo-snoc}
 use Rattle.lexical.specs.Places.{In, Distinct, in-snoc, in-left, in-right, distinct-left}
 use Rattle.lexical.specs.Claims.{Once}
 use Rattle.lexical.specs.Code.Scopes.{once-filled}
@@ -20,14 +20,15 @@ use Rattle.judge.specs.Nodes.{at, hasScope}
 use Rattle.nodefile.specs.Chosen.{chosen, chosen-append}
 use Rattle.judge.specs.Scopes.{isScope, number, numbers, scopeNumbers, EachOnce, BadScopes, not-each-once, many-scopes}
 use Rattle.judge.specs.Inside.Found.{Unset, Scope, Source, Found}
-use Rattle.judge.proofs.Marks.{Marked, Set, marked-none, marked-more, marked-again, upTo-more, upTo-front}
+use Rattle.judge.proofs.Marks.{Marked, Set, marked-none, marked-more, marked-again}
+use Rattle.judge.proofs.Lines.{upTo-front}
 
 -- ---- the numbers of the first nodes
 
 pub numbers-more : (ns : List ℕ) (m : ℕ) → numbers ns (m + 1) ≡ numbers ns m ++ cond (isScope ns m) (number ns m ∷ []) []
 unfolding chosen
 numbers-more ns m =
-    ap (λ (x : ℕ). numbers ns x) (add-one m) ∙ ap (chosen (isScope ns) (number ns)) (upTo-more (λ i. i) m)
+    ap (λ (x : ℕ). numbers ns x) (add-one m) ∙ ap (chosen (isScope ns) (number ns)) (upTo-snoc (λ i. i) m)
     ∙ chosen-append (isScope ns) (number ns) (upTo (λ i. i) m) (m ∷ [])
 
 pub numbers-front : (ns : List ℕ) (k n : ℕ) → k ≤ n → (ys : List ℕ) × (numbers ns n ≡ numbers ns k ++ ys)

@@ -1,6 +1,6 @@
 -- Number 8: the children of a node against a row of the table, one child after the other.
-use Prim.Native.Nat.{ℕ, _≤_, _<_}
-use mathlib.Core.Path.{_≡_, refl, sym, ap, _∙_}
+use Prim.Native.Nat.{ℕ}
+use mathlib.Core.Path.{_≡_, refl, sym}
 use mathlib.Core.Bool.{Bool, true, false, cond, _&&_, _||_, and-false}
 use mathlib.Core.List.{List, [], _∷_}
 use native.Mathlib.Omega.{arith}
@@ -8,7 +8,7 @@ use native.Mathlib.Decide.{decLe}
 use borrow.Author.Tests.{lt-leb, eq-eqb}
 use lib.Dec.{leb, eqb}
 use Rattle.lexical.specs.Table.{Item, one, opt, many, row, within, headIn, dropOne, dropMany, isEmpty, matches, allowed}
-use Rattle.judge.specs.Inside.Code.{never, restOf, needed, small}
+use Rattle.judge.specs.Inside.Code.{never, restOf, needed}
 
 -- nothing fills `never`
 none-within : (k : ℕ) → within 31 0 k ≡ false

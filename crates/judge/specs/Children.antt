@@ -3,7 +3,7 @@ use Prim.Native.Nat.{ℕ, _*_, _<_}
 use mathlib.Core.Path.{_≡_}
 use mathlib.Core.Bool.{false}
 use mathlib.Core.List.{List}
-use lib.ListN.{length, drop}
+use lib.ListN.{length}
 use Rattle.lexical.specs.Table.{allowed}
 use Rattle.nodefile.specs.Node.{kindOf, below}
 use Rattle.nodefile.specs.Kids.{Kids}

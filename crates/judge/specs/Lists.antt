@@ -1,5 +1,5 @@
 -- Number 6 of document 01: the module entries and the globals, each as the list of its name numbers.
-use Prim.Native.Nat.{ℕ, _≤_, _<_}
+use Prim.Native.Nat.{ℕ, _≤_}
 use mathlib.Core.List.{List}
 use Rattle.base.specs.UpTo.{upTo}
 use Rattle.lexical.specs.Places.{In, Distinct}

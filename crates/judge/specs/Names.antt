@@ -4,7 +4,6 @@ use mathlib.Core.Path.{_≡_}
 use mathlib.Core.List.{List}
 use lib.ListN.{length}
 use Rattle.nodefile.specs.Lists.{nameOff, nameLen, spelled}
-use Rattle.judge.specs.Header.{unless}
 
 -- 5: of n names, one of length 0, past the pool, or spelled as an earlier one
 pub data BadNames (n : ℕ) (nm pool : List ℕ) : Type 0 where

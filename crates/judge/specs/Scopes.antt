@@ -1,8 +1,8 @@
 -- Number 10 of document 01: the scope numbers.
-use Prim.Native.Nat.{ℕ, _*_, _/_, _<_}
+use Prim.Native.Nat.{ℕ, _/_, _<_}
 use mathlib.Core.Bool.{Bool}
 use mathlib.Core.List.{List}
-use lib.ListN.{length, drop}
+use lib.ListN.{length}
 use Rattle.base.specs.UpTo.{upTo}
 use Rattle.lexical.specs.Claims.{Filled, Once}
 use Rattle.nodefile.specs.Node.{kindOf, valueOf}

@@ -1,9 +1,9 @@
 -- What is proved of the numbers that judging gives back.
 use Prim.Native.Nat.{ℕ, zero, suc, _+_, _*_, _≤_, _<_}
 use mathlib.Core.Path.{_≡_, refl, sym, ap, _∙_, subst}
-use mathlib.Core.Bool.{true, false}
+use mathlib.Core.Bool.{false}
 use mathlib.Core.Option.{some}
-use mathlib.Core.List.{List, [], _∷_, map}
+use mathlib.Core.List.{List, _∷_, map}
 use native.Mathlib.Omega.{arith}
 use lib.ListN.{length, take, getElem?}
 use Rattle.base.specs.Smallest.{Clear, smallest-one, smallest-clear}
@@ -16,7 +16,7 @@ use Rattle.lexical.specs.Claims.{Scoped}
 use Rattle.lexical.specs.Code.Scopes.{once-scoped}
 use Rattle.nodefile.specs.Node.{kindOf, valueOf, below}
 use Rattle.nodefile.specs.Layout.{nameCount, entryCount, nodesOf, namesOf, poolOf, entriesOf, nodes-length}
-use Rattle.nodefile.specs.Lists.{nameOff, nameLen, entryName}
+use Rattle.nodefile.specs.Lists.{nameOff, nameLen}
 use Rattle.nodefile.specs.Reads.{Reads, reads-kids, reads-length, reads-root}
 use Rattle.nodefile.specs.Order.{Spot, spotsIn, spots-count, spot-at}
 use Rattle.nodefile.specs.Trees.{tree}

@@ -1,8 +1,7 @@
 // Number 8: the root, and the children of each node against the table.
 ghost use mathlib.Core.Path.{_≡_};
-ghost use Prim.Native.Nat.{ℕ, _*_, _≤_, _<_};
+ghost use Prim.Native.Nat.{ℕ, _*_, _<_};
 ghost use mathlib.Core.List.{List};
-ghost use lib.ListN.{length};
 ghost use Rattle.base.specs.Says.{Says};
 ghost use Rattle.nodefile.specs.Kids.{Kids, Fits};
 ghost use Rattle.judge.specs.Nodes.{Sound};
@@ -10,7 +9,20 @@ ghost use Rattle.lexical.specs.Table.{row, allowed};
 ghost use Rattle.judge.specs.Children.{BadChildren};
 ghost use Rattle.judge.specs.Inside.Code.{Coded, Takes, codeOf, restOf};
 
-// The row of a kind as one number.
+// A row of the table is one number, its code: 13 bits a place, the first place lowest. Of a place 5 bits are the lowest kind, 5 the highest,
+// then whether any number may stand there, whether it may be passed over, and whether something must still come.
+const MANY: u64 = 1024;
+
+const SKIP: u64 = 2048;
+
+const NEED: u64 = 4096;
+
+const PLACE: u64 = 8192;
+
+// The code of a row that nothing fills.
+const NEVER: u64 = 258079;
+
+// The code of the row of a kind.
 fn code(kind: u64) -> u64
     requires { ⌜ kind < 19 ⌝ }
     ensures { λ r. ⌜ r ≡ codeOf (row kind) ⌝ }
@@ -59,15 +71,15 @@ fn rest(row: u64, kind: u64) -> u64
     let mut c = row;
     loop {
         if takes(c, kind) {
-            if c / 1024 % 2 == 1 {
+            if c / MANY % 2 == 1 {
                 return c;
             }
-            return c / 8192;
+            return c / PLACE;
         }
-        if c / 2048 % 2 == 0 {
-            return 258079;
+        if c / SKIP % 2 == 0 {
+            return NEVER;
         }
-        c = c / 8192;
+        c = c / PLACE;
     }
 }
 
@@ -83,7 +95,7 @@ fn kids_allowed(kids: &[u8], kind: u64) -> bool
         let end = 8 * nodefile::size(t) as usize;
         t = &t[end..];
     }
-    if row / 4096 % 2 == 0 {
+    if row / NEED % 2 == 0 {
         return true;
     }
     // A Param may have no children.

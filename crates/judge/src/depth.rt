@@ -6,7 +6,7 @@ ghost use Rattle.nodefile.specs.Reads.{Reads};
 ghost use Rattle.nodefile.specs.Height.{height};
 ghost use Rattle.judge.specs.Inside.Held.{Held};
 
-// Whether the trees that t holds are more than `left` deep. A stretch of at most `left` nodes is not.
+// Whether the trees that t holds are more than `left` deep; as many nodes as levels are not. Each call has a level less, so 64 stand at most on the stack.
 pub fn deeper(t: &[u8], left: usize) -> bool
     requires { ⌜ Held (now t) × (left < 65) ⌝ }
     ensures { λ r. ⌜ ((at : ℕ) (f : Forest) → Reads (now (t .entry)) at f → Says r (left < height f)) ⌝ }

@@ -2,6 +2,7 @@
 ghost use Rattle.base.specs.Says.{Says};
 ghost use Rattle.judge.specs.Header.{BadHeader, BadCounts, BadLength};
 
+// Number 2: fewer than 12 bytes, version not 1, or zero bits set.
 pub fn bad_header(file: &[u8]) -> bool
     ensures { λ r. ⌜ Says r (BadHeader (now (file .entry))) ⌝ }
 {
@@ -17,6 +18,7 @@ pub fn bad_header(file: &[u8]) -> bool
     false
 }
 
+// Number 3: a count out of range.
 pub fn bad_counts(file: &[u8]) -> bool
     ensures { λ r. ⌜ Says r (BadCounts (now (file .entry))) ⌝ }
 {
@@ -42,6 +44,7 @@ pub fn bad_counts(file: &[u8]) -> bool
     false
 }
 
+// Number 4: the length is not what the header says.
 pub fn bad_length(file: &[u8]) -> bool
     ensures { λ r. ⌜ Says r (BadLength (now (file .entry))) ⌝ }
 {

@@ -7,6 +7,7 @@ mod names;
 mod nodes;
 mod params;
 mod scopes;
+mod wide;
 
 ghost use Rattle.base.specs.Smallest.{Clear, Smallest};
 ghost use Rattle.judge.specs.Cond.{Cond, Judged};
@@ -28,7 +29,7 @@ fn judge_header(file: &[u8]) -> u64
     0
 }
 
-// Numbers 5 and 6, after those before.
+// Numbers 5 and 6, of a file that 2 to 4 let pass.
 fn judge_lists(file: &[u8]) -> u64
     requires { ⌜ Clear (Cond (now file)) 5 ⌝ }
     ensures { λ r. ⌜ Smallest (Cond (now (file .entry))) 7 r ⌝ }
@@ -52,7 +53,7 @@ fn judge_lists(file: &[u8]) -> u64
     0
 }
 
-// Numbers 7 to 11, after those before.
+// Numbers 7 to 11, of a file that 2 to 6 let pass.
 fn judge_nodes(file: &[u8]) -> u64
     requires { ⌜ Clear (Cond (now file)) 7 ⌝ }
     ensures { λ r. ⌜ Judged (now (file .entry)) r ⌝ }

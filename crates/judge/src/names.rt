@@ -4,18 +4,7 @@ ghost use Prim.Native.Nat.{_≤_, _<_};
 ghost use Rattle.base.specs.Says.{Says};
 ghost use Rattle.judge.specs.Names.{BadNames};
 ghost use Rattle.judge.specs.Inside.Chain.{hashOf, Links, Met};
-
-fn wide(x: u8) -> usize
-    ensures { λ r. ⌜ (r ≡ x) × (r < 256) ⌝ }
-{
-    x as usize
-}
-
-fn link(x: u16) -> usize
-    ensures { λ r. ⌜ r ≡ x ⌝ }
-{
-    x as usize
-}
+use crate::wide;
 
 // A number below 1,024 for a spelling: two spellings with different numbers differ.
 fn hash(s: &[u8]) -> usize
@@ -24,7 +13,7 @@ fn hash(s: &[u8]) -> usize
     let mut h: usize = 0;
     let mut i: usize = 0;
     while i < s.len() {
-        h = (h * 31 + wide(s[i])) % 1024;
+        h = (h * 31 + wide::byte(s[i])) % 1024;
         i += 1;
     }
     h
@@ -41,7 +30,7 @@ fn met(nm: &[u8], pool: &[u8], links: &[u16; 1024], from: usize, s: &[u8]) -> bo
         if check::same(nodefile::spelled(nm, pool, j), s) {
             return true;
         }
-        k = link(links[j]);
+        k = wide::place(links[j]);
     }
     false
 }
@@ -66,7 +55,7 @@ pub fn bad_names(nm: &[u8], pool: &[u8], n: usize) -> bool
         let s = nodefile::spelled(nm, pool, j);
         let h = hash(s);
         let from = heads[h];
-        if met(nm, pool, &links, link(from), s) {
+        if met(nm, pool, &links, wide::place(from), s) {
             return true;
         }
         links[j] = from;

@@ -26,6 +26,7 @@ fn kids_fit(kids: &[u8]) -> bool
     false
 }
 
+// No such name, or a value where none belongs.
 fn bad_value(kind: u64, value: u64, names: u64) -> bool
     ensures { λ r. ⌜ Says r (BadValue names kind value) ⌝ }
 {

@@ -8,12 +8,7 @@ ghost use Rattle.judge.specs.Nodes.{Sound};
 ghost use Rattle.judge.specs.Params.{named, ParamNames, BadParams};
 ghost use Rattle.judge.specs.Inside.Found.{Found};
 ghost use Rattle.judge.specs.Inside.Naming.{Known, AllKnown, Fresh};
-
-fn wide(x: u16) -> usize
-    ensures { λ r. ⌜ r ≡ x ⌝ }
-{
-    x as usize
-}
+use crate::wide;
 
 // Whether t starts with a Param that has a Name.
 fn is_named(t: &[u8]) -> bool
@@ -58,7 +53,7 @@ pub fn bad_params(ns: &[u8], found: &[u16; 256]) -> bool
     let mut marks = [0u8; 1024];
     let mut v: usize = 1;
     while v < 256 {
-        let cell = wide(found[v]);
+        let cell = wide::place(found[v]);
         if cell == 0 {
             return false;
         }

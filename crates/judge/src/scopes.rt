@@ -8,6 +8,7 @@ ghost use Rattle.judge.specs.Nodes.{hasScope};
 ghost use Rattle.judge.specs.Scopes.{BadScopes};
 ghost use Rattle.judge.specs.Inside.Found.{Unset, Found};
 
+// Whether a kind has a scope number: Def and Lambda.
 fn is_scope(kind: u64) -> bool
     ensures { λ r. ⌜ r ≡ hasScope kind ⌝ }
 {

@@ -3,7 +3,7 @@ use mathlib.Core.Path.{refl}
 use native.Mathlib.Omega.{arith}
 use Rattle.base.specs.Says.{says-true, says-false}
 use Rattle.base.specs.Smallest.{found, none, clear-more}
-use Rattle.judge.proofs.Answers.{clear-2}
+use Rattle.judge.specs.Laws.Front.{clear-2}
 use borrow.Author.Needs.{needs}
 use Rattle.judge.proofs.judge_header.Statement.{statement}
 use Rattle.judge.proofs.judge_header.Tie as tie

@@ -1,5 +1,5 @@
 -- Numbers 5 and 6, one after the other.
-use Prim.Native.Nat.{ℕ, _≤_}
+use Prim.Native.Nat.{ℕ}
 use mathlib.Core.Path.{refl, subst₃}
 use mathlib.Core.Bool.{true, false}
 use mathlib.Core.List.{List}
@@ -7,7 +7,6 @@ use native.Mathlib.Omega.{arith}
 use Rattle.base.specs.Says.{Says, says-true, says-false}
 use Rattle.base.specs.Smallest.{found, none, clear-more}
 use Rattle.base.specs.UpTo.{upTo}
-use Rattle.nodefile.specs.Layout.{nameCount}
 use Rattle.judge.specs.Names.{BadNames}
 use Rattle.judge.specs.Lists.{BadList, bad-entry, bad-global}
 use Rattle.judge.specs.Inside.Line.{lineOf}

@@ -1,5 +1,5 @@
 -- What the test of one function's parameters asks and leaves: marks by name number, of which none has reached this function's stamp.
-use Prim.Native.Nat.{ℕ, _≤_, _<_}
+use Prim.Native.Nat.{ℕ, _<_}
 use mathlib.Core.Path.{_≡_}
 use mathlib.Core.List.{List}
 use lib.ListN.{length, getD}

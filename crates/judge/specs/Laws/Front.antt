@@ -1,14 +1,13 @@
 -- A file longer than any that is accepted: its answer goes by its first 12 bytes.
-use Prim.Native.Nat.{ℕ, _+_, _*_, _≤_, _<_, min}
-use mathlib.Core.Path.{_≡_, refl, sym, ap, _∙_, subst}
+use Prim.Native.Nat.{ℕ, _≤_, _<_}
+use mathlib.Core.Path.{_≡_, sym, _∙_, subst}
 use mathlib.Core.List.{List}
 use native.Mathlib.Omega.{arith}
-use native.Mathlib.Nat.{min-eq-left}
 use native.Mathlib.Decide.{ℕ-discrete}
 use lib.ListN.{length, take, length-take}
-use Rattle.base.specs.Smallest.{Clear, Smallest, found, none, clear-none, clear-more}
+use Rattle.base.specs.Smallest.{Clear, found, none, clear-none, clear-more}
 use Rattle.bits.specs.FieldLaws.{field-take}
-use Rattle.nodefile.specs.Layout.{version, headZero, nodeCount, nameCount, entryCount, globalCount, poolBytes, fileLength}
+use Rattle.nodefile.specs.Layout.{version, headZero, nodeCount, nameCount, entryCount, globalCount, poolBytes}
 use Rattle.judge.specs.Header.{BadHeader, short, other-version, zero-bits-set, BadCounts, no-nodes, many-nodes, many-names, many-entries, many-globals, large-pool, BadLength, other-length, unless}
 use Rattle.judge.specs.Cond.{Cond, Judged}
 
@@ -48,7 +47,7 @@ too-long bs h ok = other-length (λ e. omega (
   unless (poolBytes bs) 16384 ok large-pool,
 ))
 
-clear-2 : (bs : List ℕ) → Clear (Cond bs) 2
+pub clear-2 : (bs : List ℕ) → Clear (Cond bs) 2
 clear-2 bs = clear-more 1 (clear-more 0 (clear-none (Cond bs)) (λ x. x)) (λ x. x)
 
 module _ {fs bs : List ℕ} (s : Same fs bs) (t : Same bs fs) where

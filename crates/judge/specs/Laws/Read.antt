@@ -4,35 +4,33 @@
 --     params-read    the names of the Params in a stretch are those of the trees that it holds
 use Prim.Native.Nat.{ℕ, suc, _+_, _-_, _*_, _/_, _≤_, _<_}
 use mathlib.Core.Path.{_≡_, refl, sym, ap, ap₂, _∙_, subst}
-use mathlib.Core.Bool.{Bool, true, false, cond, _&&_, _||_, and-false}
+use mathlib.Core.Bool.{Bool, true, false, cond}
 use mathlib.Core.Option.{some}
 use mathlib.Core.List.{List, [], _∷_, _++_}
 use native.Mathlib.Omega.{arith}
-use native.Mathlib.Decide.{decLt}
-use borrow.Author.Tests.{ne-eqb, eq-eqb, lt-ltb, le-ltb}
+use borrow.Author.Tests.{lt-ltb, le-ltb}
 use lib.Dec.{eqb, ltb, T}
-use lib.ListN.{length, drop, getElem?, replicate, length-replicate, List·getD-eq-default}
-use Rattle.base.specs.UpTo.{upTo}
+use lib.ListN.{length, drop, getElem?, replicate, length-replicate}
+use Rattle.base.specs.UpTo.{upTo, at-right}
 use Rattle.base.specs.Table.{at as tested-at}
 use Rattle.bits.specs.FieldLaws.{field-take}
 use Rattle.lexical.specs.Places.{at-append, at-below}
-use Rattle.lexical.specs.Tree.{Forest, nil, node, way, isFn, scopesIn, listed}
+use Rattle.lexical.specs.Tree.{Forest, nil, node, way, isFn, scopesIn}
 use Rattle.lexical.specs.Table.{ownName, paramNames}
 use Rattle.nodefile.specs.Node.{kindOf, sizeOf, valueOf, below, after}
-use Rattle.nodefile.specs.Reads.{Reads, countOf, reads-length, reads-size, below-length}
+use Rattle.nodefile.specs.Reads.{Reads, countOf, reads-length, below-length}
 use Rattle.nodefile.specs.Order.{Spot, spotsIn, spots-count, spot-at}
 use Rattle.nodefile.specs.Chosen.{chosen}
 use Rattle.nodefile.specs.Listed.{listed-spots}
 use Rattle.judge.specs.Nodes.{at, hasScope, Sound}
 use Rattle.judge.specs.Scopes.{isScope, number, numbers, scopeNumbers}
-use Rattle.judge.specs.Params.{named, paramName, ParamNames, no-params, param, other}
+use Rattle.judge.specs.Params.{paramName, ParamNames, no-params, param, other}
 use Rattle.judge.specs.Accepted.{Each}
 
 -- ---- every node
 
 at-after : {A : Type 0} (xs ys : List A) (i : ℕ) (a : A) → getElem? ys i ≡ some a → getElem? (xs ++ ys) (length xs + i) ≡ some a
-at-after [] ys i a e = let z : 0 + i ≡ i = omega arith in rw z e
-at-after (x ∷ xs) ys i a e = let z : suc (length xs) + i ≡ suc (length xs + i) = omega arith in rw z (at-after xs ys i a e)
+at-after xs ys i a e = let z : length xs + i - length xs ≡ i = omega arith in at-right xs ys (length xs + i) (omega arith) ∙ rw z e
 
 pub each-spots : (P : Spot → Type 0) (f : Forest) → ((i : ℕ) (s : Spot) → getElem? (spotsIn f) i ≡ some s → P s) → Each P f
 unfolding spotsIn

@@ -1,17 +1,17 @@
 -- Number 8 of the whole list: the children of each node passed are what the table allows.
-use Prim.Native.Nat.{ℕ, _+_, _*_, _≤_, _<_}
-use mathlib.Core.Path.{_≡_, refl, sym, ap, _∙_, subst}
+use Prim.Native.Nat.{ℕ}
+use mathlib.Core.Path.{_≡_, sym, _∙_, subst}
 use mathlib.Core.Bool.{true, true≢false}
 use mathlib.Core.List.{List}
 use native.Mathlib.Omega.{arith}
-use lib.ListN.{length, drop, length-drop}
+use lib.ListN.{length}
 use Rattle.nodefile.specs.Node.{kindOf, below}
 use Rattle.nodefile.specs.Kids.{Kids, Fits}
-use Rattle.judge.specs.Nodes.{at, Sound}
+use Rattle.judge.specs.Nodes.{at}
 use Rattle.lexical.specs.Table.{allowed}
 use Rattle.judge.specs.Children.{root-no-statement, other-children}
 use Rattle.judge.proofs.Pass.{Passed, passed-none, passed-inside, passed-more, passed-all}
-use Rattle.judge.proofs.Here.{Here, node-here, kids-here}
+use Rattle.judge.proofs.Here.{node-here, kids-here}
 use Rattle.judge.proofs.Fitting.{below-is}
 use Rattle.judge.proofs.children.bad_children.Statement.{statement}
 use Rattle.judge.proofs.children.bad_children.Tie as tie

@@ -2,7 +2,7 @@
 use Prim.Native.Nat.{_-_, _≤_}
 use native.Mathlib.Omega.{arith}
 use Rattle.judge.specs.Inside.Line.{lineOf}
-use Rattle.judge.proofs.Marks.{Lines, lines-none, lines-more, lines-twice, lines-all, lines-unknown}
+use Rattle.judge.proofs.Lines.{Lines, lines-none, lines-more, lines-twice, lines-all, lines-unknown}
 use Rattle.judge.proofs.lists.bad_list.Statement.{statement}
 use Rattle.judge.proofs.lists.bad_list.Tie as tie
 

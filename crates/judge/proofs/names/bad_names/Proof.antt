@@ -4,7 +4,7 @@ use mathlib.Core.Path.{sym, ap, _∙_}
 use native.Mathlib.Omega.{arith}
 use Rattle.base.specs.Says.{says-true, says-false}
 use Rattle.judge.specs.Names.{empty, past-pool}
-use Rattle.judge.specs.Inside.Chain.{hashOf}
+use Rattle.judge.specs.Inside.Chain.{hashOf, Met}
 use Rattle.judge.proofs.Chains.{Chained, chained-none, chained-all, chained-met, chained-more, met-as}
 use Rattle.judge.proofs.names.bad_names.Statement.{statement}
 use Rattle.judge.proofs.names.bad_names.Tie as tie
@@ -47,13 +47,13 @@ mul-from c = omega arith
 array-read-from : tie.Need-array-read-from Inv-loop μ-loop
 array-read-from c = omega arith
 
-link-requires : tie.Need-link-requires Inv-loop μ-loop
-link-requires c κs = omega arith
+place-requires : tie.Need-place-requires Inv-loop μ-loop
+place-requires c κs = omega arith
 
 met-requires : tie.Need-met-requires Inv-loop μ-loop
 met-requires c κs =
     let loop′ = c .before .before .before .before .before .before .before .before .before .loop in
-    (loop′ .inv .1 .linked, omega (arith, c .link .ensures, loop′ .inv .1 .low (c .before .before .hash .result)))
+    (loop′ .inv .1 .linked, omega (arith, c .place .ensures, loop′ .inv .1 .low (c .before .before .hash .result)))
 
 returns-3 : tie.Need-returns-3 Inv-loop μ-loop
 returns-3 c =
@@ -61,7 +61,7 @@ returns-3 c =
     let hash′ = c .before .before .before .before .hash in
     let spelled′ = c .before .before .before .before .before .spelled in
     let numbered′ = hash′ .ensures .0 ∙ ap hashOf (spelled′ .ensures) in
-    chained-met (loop′ .inv .1) (hash′ .result) numbered′ (omega arith) (omega arith) (omega arith) (met-as (c .before .before .link .ensures) (spelled′ .ensures) (says-true (c .if3 .taken) (c .before .met .ensures)))
+    chained-met (loop′ .inv .1) (hash′ .result) numbered′ (omega arith) (omega arith) (omega arith) (met-as (c .before .before .place .ensures) (spelled′ .ensures) (says-true {P = Met _ _ _ _ _} (c .if3 .taken) (c .before .met .ensures)))
 
 mul-links : tie.Need-mul-links Inv-loop μ-loop
 mul-links c = omega arith
@@ -92,7 +92,7 @@ loop-again c =
     let name-offset′ = c .before .before .before .before .before .before .before .before .before .name-offset in
     let spelled′ = c .before .before .before .before .before .spelled in
     let numbered′ = hash′ .ensures .0 ∙ ap hashOf (spelled′ .ensures) in
-    (omega arith, chained-more (loop′ .inv .1) (hash′ .result) numbered′ (omega arith) (omega arith) (omega (arith, name-length′ .ensures .is)) (omega (arith, name-offset′ .ensures .is, name-length′ .ensures .is)) (λ m. says-false (c .if3 .left) (c .before .met .ensures) (met-as (sym (c .before .before .link .ensures)) (sym (spelled′ .ensures)) m)))
+    (omega arith, chained-more (loop′ .inv .1) (hash′ .result) numbered′ (omega arith) (omega arith) (omega (arith, name-length′ .ensures .is)) (omega (arith, name-offset′ .ensures .is, name-length′ .ensures .is)) (λ m. says-false {P = Met _ _ _ _ _} (c .if3 .left) (c .before .met .ensures) (met-as (sym (c .before .before .place .ensures)) (sym (spelled′ .ensures)) m)))
 
 returns-4 : tie.Need-returns-4 Inv-loop μ-loop
 returns-4 c = chained-all (c .before .loop .inv .1) (omega arith)
@@ -113,7 +113,7 @@ bad-names-spec =
     hash-requires
     mul-from
     array-read-from
-    link-requires
+    place-requires
     met-requires
     returns-3
     mul-links

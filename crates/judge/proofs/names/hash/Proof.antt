@@ -20,14 +20,14 @@ loop-holds c = (omega arith, omega arith, refl)
 mul-h : tie.Need-mul-h Inv-loop μ-loop
 mul-h c = omega arith
 
-shared-slice-read-wide : tie.Need-shared-slice-read-wide Inv-loop μ-loop
-shared-slice-read-wide c = omega arith
+shared-slice-read-byte : tie.Need-shared-slice-read-byte Inv-loop μ-loop
+shared-slice-read-byte c = omega arith
 
-wide-requires : tie.Need-wide-requires Inv-loop μ-loop
-wide-requires c κs = tt
+byte-requires : tie.Need-byte-requires Inv-loop μ-loop
+byte-requires c κs = tt
 
 add-h : tie.Need-add-h Inv-loop μ-loop
-add-h c = omega (arith, c .wide .ensures .1)
+add-h c = omega (arith, c .byte .ensures .1)
 
 add-i : tie.Need-add-i Inv-loop μ-loop
 add-i c = omega arith
@@ -39,7 +39,7 @@ loop-again : tie.Need-loop-again Inv-loop μ-loop
 loop-again c =
     let loop′ = c .before .before .before .loop in
     let args′ = c .before .before .before .before .before .args in
-    (omega arith, omega arith, subst (λ (x : ℕ). hashFrom ((loop′ .h * 31 + x) % 1024) (drop (loop′ .i + 1) (args′ .s .now)) ≡ hashOf (args′ .s .now)) (sym (c .wide .ensures .0)) (hash-step (args′ .s .now) (loop′ .h) (loop′ .i) (omega arith) (loop′ .inv .2)))
+    (omega arith, omega arith, subst (λ (x : ℕ). hashFrom ((loop′ .h * 31 + x) % 1024) (drop (loop′ .i + 1) (args′ .s .now)) ≡ hashOf (args′ .s .now)) (sym (c .byte .ensures .0)) (hash-step (args′ .s .now) (loop′ .h) (loop′ .i) (omega arith) (loop′ .inv .2)))
 
 returns : tie.Need-returns Inv-loop μ-loop
 returns c =
@@ -54,8 +54,8 @@ hash-spec =
     μ-loop
     loop-holds
     mul-h
-    shared-slice-read-wide
-    wide-requires
+    shared-slice-read-byte
+    byte-requires
     add-h
     add-i
     loop-less

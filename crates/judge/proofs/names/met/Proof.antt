@@ -1,6 +1,6 @@
 -- The walk along a chain.
-use Prim.Native.Nat.{ℕ, _-_, _≤_}
-use mathlib.Core.Path.{_≡_, sym, ap, _∙_, subst}
+use Prim.Native.Nat.{_-_, _≤_}
+use mathlib.Core.Path.{sym, _∙_}
 use mathlib.Core.Bool.{false≢true}
 use native.Mathlib.Omega.{arith}
 use Rattle.judge.specs.Inside.Chain.{Met}
@@ -31,26 +31,26 @@ returns c =
     let loop′ = c .before .before .before .before .loop in
     loop′ .inv .1 (met-here (loop′ .k - 1) (omega arith) (sym (c .before .before .spelled .ensures) ∙ c .before .same .ensures .0 (c .if1 .taken)))
 
-mul-link : tie.Need-mul-link Inv-loop μ-loop
-mul-link c = omega arith
+mul-place : tie.Need-mul-place Inv-loop μ-loop
+mul-place c = omega arith
 
-element-copy-out-link : tie.Need-element-copy-out-link Inv-loop μ-loop
-element-copy-out-link c = omega arith
+element-copy-out-place : tie.Need-element-copy-out-place Inv-loop μ-loop
+element-copy-out-place c = omega arith
 
-link-requires : tie.Need-link-requires Inv-loop μ-loop
-link-requires c κs = omega arith
+place-requires : tie.Need-place-requires Inv-loop μ-loop
+place-requires c κs = omega arith
 
 loop-less : tie.Need-loop-less Inv-loop μ-loop
 loop-less c =
     let pre′ = c .before .before .before .before .before .before .before .before .before .before .pre in
     let loop′ = c .before .before .before .before .before .before .loop in
-    omega (arith, c .link .ensures, pre′ .0 .down (loop′ .k - 1))
+    omega (arith, c .place .ensures, pre′ .0 .down (loop′ .k - 1))
 
 loop-again : tie.Need-loop-again Inv-loop μ-loop
 loop-again c =
     let pre′ = c .before .before .before .before .before .before .before .before .before .before .pre in
     let loop′ = c .before .before .before .before .before .before .loop in
-    (omega (arith, c .link .ensures, pre′ .0 .down (loop′ .k - 1)), λ m. loop′ .inv .1 (met-there (loop′ .k - 1) (omega arith) (c .link .ensures) m), λ m. met-next (loop′ .k - 1) (omega arith) (c .link .ensures) (λ q. false≢true (sym (c .before .before .if1 .left) ∙ c .before .before .before .same .ensures .1 (c .before .before .before .before .spelled .ensures ∙ q))) (loop′ .inv .2 m))
+    (omega (arith, c .place .ensures, pre′ .0 .down (loop′ .k - 1)), λ m. loop′ .inv .1 (met-there (loop′ .k - 1) (omega arith) (c .place .ensures) m), λ m. met-next (loop′ .k - 1) (omega arith) (c .place .ensures) (λ q. false≢true (sym (c .before .before .if1 .left) ∙ c .before .before .before .same .ensures .1 (c .before .before .before .before .spelled .ensures ∙ q))) (loop′ .inv .2 m))
 
 returns-2 : tie.Need-returns-2 Inv-loop μ-loop
 returns-2 c = λ m. met-none (omega arith) (c .before .loop .inv .2 m)
@@ -66,9 +66,9 @@ met-spec =
     spelled-requires
     same-requires
     returns
-    mul-link
-    element-copy-out-link
-    link-requires
+    mul-place
+    element-copy-out-place
+    place-requires
     loop-less
     loop-again
     returns-2)

@@ -3,7 +3,7 @@ use mathlib.Core.Path.{sym, subst}
 use native.Mathlib.Omega.{arith}
 use Rattle.base.specs.Says.{says-true, says-false}
 use Rattle.nodefile.specs.Kids.{Fits}
-use Rattle.judge.specs.Inside.Node.{BadNode, kind, zero-bits, value, size, past-list, misfit}
+use Rattle.judge.specs.Inside.Node.{kind, zero-bits, value, size, past-list, misfit}
 use Rattle.judge.proofs.Values.{value-as}
 use Rattle.judge.proofs.Fitting.{below-is}
 use borrow.Author.Needs.{needs}

@@ -1,7 +1,5 @@
 -- Number 7 of the whole list: no node passed has a fault of its own.
-use Prim.Native.Nat.{ℕ}
 use mathlib.Core.Path.{sym, subst}
-use mathlib.Core.List.{List}
 use native.Mathlib.Omega.{arith}
 use lib.ListN.{length}
 use Rattle.base.specs.Says.{says-true, says-false}

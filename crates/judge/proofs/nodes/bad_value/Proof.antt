@@ -1,7 +1,7 @@
 -- A node's value, by its kind.
 use native.Mathlib.Omega.{arith}
-use mathlib.Core.Path.{_≡_, sym, _∙_}
-use mathlib.Core.Bool.{true, false, true≢false}
+use mathlib.Core.Path.{sym, _∙_}
+use mathlib.Core.Bool.{true≢false}
 use Rattle.judge.specs.Inside.Node.{no-name, no-value}
 use Rattle.judge.proofs.Values.{is-name, is-scope, scope-no-name, is-neither}
 use Rattle.judge.proofs.nodes.bad_value.Statement.{statement}
