@@ -171,333 +171,258 @@ collect-kids-calls t = (size-reads.Asked, size-reads.Learnt, collect-node-below 
 abbrev collect-node-calls : ℕ → collect-node-lts.Claims
 collect-node-calls t = (kind-reads.Asked, kind-reads.Learnt, collect-defines-below t, collect-defines.Post, collect-defines-lvalue-below t, collect-defines-lvalue.Post, collect-defines-clause-below t, collect-defines-clause.Post, collect-defines-param-below t, collect-defines-param.Post)
 
--- src/walk.rt:117:9
 collect-defines-kind-requires : (t : ℕ) → collect-defines-lts.Need-kind-requires (collect-defines-calls t) (collect-defines-at t) collect-defines.Post
 collect-defines-kind-requires t c κs = search needs
 
--- src/walk.rt:120:36
 collect-defines-sub-value : (t : ℕ) → collect-defines-lts.Need-sub-value (collect-defines-calls t) (collect-defines-at t) collect-defines.Post
 collect-defines-sub-value t c = omega (arith, x-long ((c .before .before .before .before .before .before .pre) .1 .one))
 
--- src/walk.rt:120:36
 collect-defines-part-value-start : (t : ℕ) → collect-defines-lts.Need-part-value-start (collect-defines-calls t) (collect-defines-at t) collect-defines.Post
 collect-defines-part-value-start t c = omega (arith, x-long ((c .before .before .before .before .before .before .pre) .1 .one))
 
--- src/walk.rt:120:36
 collect-defines-part-value-end : (t : ℕ) → collect-defines-lts.Need-part-value-end (collect-defines-calls t) (collect-defines-at t) collect-defines.Post
 collect-defines-part-value-end t c = omega (arith, x-long ((c .before .before .before .before .before .before .pre) .1 .one))
 
--- src/walk.rt:120:20
 collect-defines-value-requires : (t : ℕ) → collect-defines-lts.Need-value-requires (collect-defines-calls t) (collect-defines-at t) collect-defines.Post
 collect-defines-value-requires t c κs = search needs
 
--- src/walk.rt:121:51
 collect-defines-add-collect-assign-ident :
     (t : ℕ) → collect-defines-lts.Need-add-collect-assign-ident (collect-defines-calls t) (collect-defines-at t) collect-defines.Post
 collect-defines-add-collect-assign-ident t c = omega (arith, (c .before .before .before .before .before .before .before .before .pre) .1 .one .pre .within)
 
--- src/walk.rt:121:9
 collect-defines-collect-assign-ident-requires :
     (t : ℕ) → collect-defines-lts.Need-collect-assign-ident-requires (collect-defines-calls t) (collect-defines-at t) collect-defines.Post
 collect-defines-collect-assign-ident-requires t c κs = x-def-pre ((c .before .before .before .before .before .before .before .before .before .before .before .pre) .1 .one) ((c .before .before .before .value) .result) ((c .before .before .before .value) .ensures .is) ((sym ((c .before .before .before .before .before .before .kind) .ensures .is)) ∙ (c .before .before .before .before .before .if1) .taken)
 
--- src/walk.rt:121:9
 collect-defines-same-length : (t : ℕ) → collect-defines-lts.Need-same-length (collect-defines-calls t) (collect-defines-at t) collect-defines.Post
 collect-defines-same-length t c = search needs
 
--- src/walk.rt:121:9
 collect-defines-same-length-2 : (t : ℕ) → collect-defines-lts.Need-same-length-2 (collect-defines-calls t) (collect-defines-at t) collect-defines.Post
 collect-defines-same-length-2 t c = search needs
 
--- src/walk.rt:121:9
 collect-defines-same-length-3 : (t : ℕ) → collect-defines-lts.Need-same-length-3 (collect-defines-calls t) (collect-defines-at t) collect-defines.Post
 collect-defines-same-length-3 t c = search needs
 
--- src/walk.rt:121:9
 collect-defines-returns : (t : ℕ) → collect-defines-lts.Need-returns (collect-defines-calls t) (collect-defines-at t) collect-defines.Post
 collect-defines-returns t c = x-def ((c .before .before .before .before .before .before .before .before .before .before .before .before .before .before .before .before .before .before .pre) .1 .one) ((c .before .before .before .before .before .before .before .before .before .before .value) .result) ((c .before .before .before .before .before .before .before .before .before .before .value) .ensures .is) ((sym ((c .before .before .before .before .before .before .before .before .before .before .before .before .before .kind) .ensures .is)) ∙ (c .before .before .before .before .before .before .before .before .before .before .before .before .if1) .taken) ((c .before .before .before .before .before .before .collect-assign-ident) .ensures)
 
--- src/walk.rt:124:29
 collect-defines-sub-collect-kids : (t : ℕ) → collect-defines-lts.Need-sub-collect-kids (collect-defines-calls t) (collect-defines-at t) collect-defines.Post
 collect-defines-sub-collect-kids t c = omega (arith, x-long ((c .before .before .before .before .before .before .before .pre) .1 .one))
 
--- src/walk.rt:124:29
 collect-defines-part-collect-kids-start :
     (t : ℕ) → collect-defines-lts.Need-part-collect-kids-start (collect-defines-calls t) (collect-defines-at t) collect-defines.Post
 collect-defines-part-collect-kids-start t c = omega (arith, x-long ((c .before .before .before .before .before .before .before .pre) .1 .one))
 
--- src/walk.rt:124:29
 collect-defines-part-collect-kids-end : (t : ℕ) → collect-defines-lts.Need-part-collect-kids-end (collect-defines-calls t) (collect-defines-at t) collect-defines.Post
 collect-defines-part-collect-kids-end t c = omega (arith, x-long ((c .before .before .before .before .before .before .before .pre) .1 .one))
 
--- src/walk.rt:124:42
 collect-defines-add-collect-kids : (t : ℕ) → collect-defines-lts.Need-add-collect-kids (collect-defines-calls t) (collect-defines-at t) collect-defines.Post
 collect-defines-add-collect-kids t c = omega (arith, (c .before .before .before .before .before .before .before .before .pre) .1 .one .pre .within)
 
--- src/walk.rt:124:57
 collect-defines-looping-requires : (t : ℕ) → collect-defines-lts.Need-looping-requires (collect-defines-calls t) (collect-defines-at t) collect-defines.Post
 collect-defines-looping-requires t c κs = search needs
 
--- src/walk.rt:124:9
 collect-defines-collect-kids-requires : (t : ℕ) → collect-defines-lts.Need-collect-kids-requires (collect-defines-calls t) (collect-defines-at t) collect-defines.Post
 collect-defines-collect-kids-requires t c κs = let p = (c .before .before .before .before .before .before .before .before .before .before .before .before .pre) .1 .one in (omega (arith, (c .before .before .before .before .before .before .before .before .before .before .before .before .pre) .0, x-kids-length p, x-long p), x-kids-pre p)
 
--- src/walk.rt:124:9
 collect-defines-same-length-4 : (t : ℕ) → collect-defines-lts.Need-same-length-4 (collect-defines-calls t) (collect-defines-at t) collect-defines.Post
 collect-defines-same-length-4 t c = search needs
 
--- src/walk.rt:124:9
 collect-defines-same-length-5 : (t : ℕ) → collect-defines-lts.Need-same-length-5 (collect-defines-calls t) (collect-defines-at t) collect-defines.Post
 collect-defines-same-length-5 t c = search needs
 
--- src/walk.rt:124:9
 collect-defines-same-length-6 : (t : ℕ) → collect-defines-lts.Need-same-length-6 (collect-defines-calls t) (collect-defines-at t) collect-defines.Post
 collect-defines-same-length-6 t c = search needs
 
--- src/walk.rt:124:9
 collect-defines-returns-2 : (t : ℕ) → collect-defines-lts.Need-returns-2 (collect-defines-calls t) (collect-defines-at t) collect-defines.Post
 collect-defines-returns-2 t c = x-kids ((c .before .before .before .before .before .before .before .before .before .before .before .before .before .before .before .before .before .before .before .pre) .1 .one) (λ N kids. loop-node N (marksOf ((c .before .before .before .before .before .before .before .before .before .before .before .before .before .before .before .before .before .before .before .args) .marks)) _ _ _ kids ((sym ((c .before .before .before .before .before .before .before .before .before .before .before .before .before .before .kind) .ensures .is)) ∙ (c .before .before .before .before .before .before .before .before .before .before .before .before .if2) .taken) ∙ ap (λ (m : bind.Marks). collect N m kids) (sym ((c .before .before .before .before .before .before .before .before .before .before .looping) .ensures))) ((c .before .before .before .before .before .before .collect-kids) .ensures)
 
--- src/walk.rt:127:29
 collect-defines-sub-collect-kids-2 : (t : ℕ) → collect-defines-lts.Need-sub-collect-kids-2 (collect-defines-calls t) (collect-defines-at t) collect-defines.Post
 collect-defines-sub-collect-kids-2 t c = omega (arith, x-long ((c .before .before .before .before .before .before .before .before .pre) .1 .one))
 
--- src/walk.rt:127:29
 collect-defines-part-collect-kids-start-2 :
     (t : ℕ) → collect-defines-lts.Need-part-collect-kids-start-2 (collect-defines-calls t) (collect-defines-at t) collect-defines.Post
 collect-defines-part-collect-kids-start-2 t c = omega (arith, x-long ((c .before .before .before .before .before .before .before .before .pre) .1 .one))
 
--- src/walk.rt:127:29
 collect-defines-part-collect-kids-end-2 :
     (t : ℕ) → collect-defines-lts.Need-part-collect-kids-end-2 (collect-defines-calls t) (collect-defines-at t) collect-defines.Post
 collect-defines-part-collect-kids-end-2 t c = omega (arith, x-long ((c .before .before .before .before .before .before .before .before .pre) .1 .one))
 
--- src/walk.rt:127:42
 collect-defines-add-collect-kids-2 : (t : ℕ) → collect-defines-lts.Need-add-collect-kids-2 (collect-defines-calls t) (collect-defines-at t) collect-defines.Post
 collect-defines-add-collect-kids-2 t c = omega (arith, (c .before .before .before .before .before .before .before .before .before .pre) .1 .one .pre .within)
 
--- src/walk.rt:127:57
 collect-defines-loading-requires : (t : ℕ) → collect-defines-lts.Need-loading-requires (collect-defines-calls t) (collect-defines-at t) collect-defines.Post
 collect-defines-loading-requires t c κs = search needs
 
--- src/walk.rt:127:9
 collect-defines-collect-kids-requires-2 :
     (t : ℕ) → collect-defines-lts.Need-collect-kids-requires-2 (collect-defines-calls t) (collect-defines-at t) collect-defines.Post
 collect-defines-collect-kids-requires-2 t c κs = let p = (c .before .before .before .before .before .before .before .before .before .before .before .before .before .pre) .1 .one in (omega (arith, (c .before .before .before .before .before .before .before .before .before .before .before .before .before .pre) .0, x-kids-length p, x-long p), x-kids-pre p)
 
--- src/walk.rt:127:9
 collect-defines-same-length-7 : (t : ℕ) → collect-defines-lts.Need-same-length-7 (collect-defines-calls t) (collect-defines-at t) collect-defines.Post
 collect-defines-same-length-7 t c = search needs
 
--- src/walk.rt:127:9
 collect-defines-same-length-8 : (t : ℕ) → collect-defines-lts.Need-same-length-8 (collect-defines-calls t) (collect-defines-at t) collect-defines.Post
 collect-defines-same-length-8 t c = search needs
 
--- src/walk.rt:127:9
 collect-defines-same-length-9 : (t : ℕ) → collect-defines-lts.Need-same-length-9 (collect-defines-calls t) (collect-defines-at t) collect-defines.Post
 collect-defines-same-length-9 t c = search needs
 
--- src/walk.rt:127:9
 collect-defines-returns-3 : (t : ℕ) → collect-defines-lts.Need-returns-3 (collect-defines-calls t) (collect-defines-at t) collect-defines.Post
 collect-defines-returns-3 t c = x-kids ((c .before .before .before .before .before .before .before .before .before .before .before .before .before .before .before .before .before .before .before .before .pre) .1 .one) (λ N kids. load-node N (marksOf ((c .before .before .before .before .before .before .before .before .before .before .before .before .before .before .before .before .before .before .before .before .args) .marks)) _ _ _ kids ((sym ((c .before .before .before .before .before .before .before .before .before .before .before .before .before .before .before .kind) .ensures .is)) ∙ (c .before .before .before .before .before .before .before .before .before .before .before .before .if3) .taken) ∙ ap (λ (m : bind.Marks). collect N m kids) (sym ((c .before .before .before .before .before .before .before .before .before .before .loading) .ensures))) ((c .before .before .before .before .before .before .collect-kids2) .ensures)
 
--- src/walk.rt:129:18
 collect-defines-sub-collect-kids-3 : (t : ℕ) → collect-defines-lts.Need-sub-collect-kids-3 (collect-defines-calls t) (collect-defines-at t) collect-defines.Post
 collect-defines-sub-collect-kids-3 t c = omega (arith, x-long ((c .before .before .before .before .before .before .before .before .pre) .1 .one))
 
--- src/walk.rt:129:18
 collect-defines-part-collect-kids-start-3 :
     (t : ℕ) → collect-defines-lts.Need-part-collect-kids-start-3 (collect-defines-calls t) (collect-defines-at t) collect-defines.Post
 collect-defines-part-collect-kids-start-3 t c = omega (arith, x-long ((c .before .before .before .before .before .before .before .before .pre) .1 .one))
 
--- src/walk.rt:129:18
 collect-defines-part-collect-kids-end-3 :
     (t : ℕ) → collect-defines-lts.Need-part-collect-kids-end-3 (collect-defines-calls t) (collect-defines-at t) collect-defines.Post
 collect-defines-part-collect-kids-end-3 t c = omega (arith, x-long ((c .before .before .before .before .before .before .before .before .pre) .1 .one))
 
--- src/walk.rt:129:31
 collect-defines-add-collect-kids-3 : (t : ℕ) → collect-defines-lts.Need-add-collect-kids-3 (collect-defines-calls t) (collect-defines-at t) collect-defines.Post
 collect-defines-add-collect-kids-3 t c = omega (arith, (c .before .before .before .before .before .before .before .before .before .pre) .1 .one .pre .within)
 
--- src/walk.rt:129:5
 collect-defines-collect-kids-requires-3 :
     (t : ℕ) → collect-defines-lts.Need-collect-kids-requires-3 (collect-defines-calls t) (collect-defines-at t) collect-defines.Post
 collect-defines-collect-kids-requires-3 t c κs = let p = (c .before .before .before .before .before .before .before .before .before .before .before .before .pre) .1 .one in (omega (arith, (c .before .before .before .before .before .before .before .before .before .before .before .before .pre) .0, x-kids-length p, x-long p), x-kids-pre p)
 
--- src/walk.rt:104:1
 collect-defines-same-length-10 : (t : ℕ) → collect-defines-lts.Need-same-length-10 (collect-defines-calls t) (collect-defines-at t) collect-defines.Post
 collect-defines-same-length-10 t c = search needs
 
--- src/walk.rt:104:1
 collect-defines-same-length-11 : (t : ℕ) → collect-defines-lts.Need-same-length-11 (collect-defines-calls t) (collect-defines-at t) collect-defines.Post
 collect-defines-same-length-11 t c = search needs
 
--- src/walk.rt:104:1
 collect-defines-same-length-12 : (t : ℕ) → collect-defines-lts.Need-same-length-12 (collect-defines-calls t) (collect-defines-at t) collect-defines.Post
 collect-defines-same-length-12 t c = search needs
 
--- src/walk.rt:104:1
 collect-defines-returns-4 : (t : ℕ) → collect-defines-lts.Need-returns-4 (collect-defines-calls t) (collect-defines-at t) collect-defines.Post
 collect-defines-returns-4 t c =
     let h = (c .before .before .before .before .before .before .before .before .before .before .before .before .before .before .before .before .before .before .before .pre) .1 .high in let e = (c .before .before .before .before .before .before .before .before .before .before .before .before .before .before .kind) .ensures .is in
     x-kids ((c .before .before .before .before .before .before .before .before .before .before .before .before .before .before .before .before .before .before .before .pre) .1 .one) (λ N kids. through-node N (marksOf ((c .before .before .before .before .before .before .before .before .before .before .before .before .before .before .before .before .before .before .before .args) .marks)) _ _ _ kids (through-is _ (omega arith) (λ z. omega arith) (λ z. omega (arith, (c .before .before .before .before .before .before .before .before .before .before .before .before .before .if1) .left, (c .before .before .before .before .before .before .before .before .before .before .before .before .if2) .left, (c .before .before .before .before .before .before .before .before .before .before .before .if3) .left)))) ((c .before .before .before .before .before .before .collect-kids3) .ensures)
 
--- src/walk.rt:170:18
 collect-defines-clause-sub-collect-kids :
     (t : ℕ) → collect-defines-clause-lts.Need-sub-collect-kids (collect-defines-clause-calls t) (collect-defines-clause-at t) collect-defines-clause.Post
 collect-defines-clause-sub-collect-kids t c = omega (arith, x-long ((c .before .before .before .before .pre) .1 .one))
 
--- src/walk.rt:170:18
 collect-defines-clause-part-collect-kids-start :
     (t : ℕ) → collect-defines-clause-lts.Need-part-collect-kids-start (collect-defines-clause-calls t) (collect-defines-clause-at t) collect-defines-clause.Post
 collect-defines-clause-part-collect-kids-start t c = omega (arith, x-long ((c .before .before .before .before .pre) .1 .one))
 
--- src/walk.rt:170:18
 collect-defines-clause-part-collect-kids-end :
     (t : ℕ) → collect-defines-clause-lts.Need-part-collect-kids-end (collect-defines-clause-calls t) (collect-defines-clause-at t) collect-defines-clause.Post
 collect-defines-clause-part-collect-kids-end t c = omega (arith, x-long ((c .before .before .before .before .pre) .1 .one))
 
--- src/walk.rt:170:31
 collect-defines-clause-add-collect-kids :
     (t : ℕ) → collect-defines-clause-lts.Need-add-collect-kids (collect-defines-clause-calls t) (collect-defines-clause-at t) collect-defines-clause.Post
 collect-defines-clause-add-collect-kids t c = omega (arith, (c .before .before .before .before .before .pre) .1 .one .pre .within)
 
--- src/walk.rt:170:5
 collect-defines-clause-collect-kids-requires :
     (t : ℕ) → collect-defines-clause-lts.Need-collect-kids-requires (collect-defines-clause-calls t) (collect-defines-clause-at t) collect-defines-clause.Post
 collect-defines-clause-collect-kids-requires t c κs = let p = (c .before .before .before .before .before .before .before .before .pre) .1 .one in (omega (arith, (c .before .before .before .before .before .before .before .before .pre) .0, x-kids-length p, x-long p), x-kids-pre p)
 
--- src/walk.rt:156:1
 collect-defines-clause-same-length : (t : ℕ) → collect-defines-clause-lts.Need-same-length (collect-defines-clause-calls t) (collect-defines-clause-at t) collect-defines-clause.Post
 collect-defines-clause-same-length t c = search needs
 
--- src/walk.rt:156:1
 collect-defines-clause-same-length-2 : (t : ℕ) → collect-defines-clause-lts.Need-same-length-2 (collect-defines-clause-calls t) (collect-defines-clause-at t) collect-defines-clause.Post
 collect-defines-clause-same-length-2 t c = search needs
 
--- src/walk.rt:156:1
 collect-defines-clause-same-length-3 : (t : ℕ) → collect-defines-clause-lts.Need-same-length-3 (collect-defines-clause-calls t) (collect-defines-clause-at t) collect-defines-clause.Post
 collect-defines-clause-same-length-3 t c = search needs
 
--- src/walk.rt:156:1
 collect-defines-clause-returns : (t : ℕ) → collect-defines-clause-lts.Need-returns (collect-defines-clause-calls t) (collect-defines-clause-at t) collect-defines-clause.Post
 collect-defines-clause-returns t c =
     let h = (c .before .before .before .before .before .before .before .before .before .before .before .before .before .before .before .pre) .1 .high in let l = (c .before .before .before .before .before .before .before .before .before .before .before .before .before .before .before .pre) .1 .low in
     x-kids ((c .before .before .before .before .before .before .before .before .before .before .before .before .before .before .before .pre) .1 .one) (λ N kids. through-node N (marksOf ((c .before .before .before .before .before .before .before .before .before .before .before .before .before .before .before .args) .marks)) _ _ _ kids (through-is _ (omega arith) (λ z. omega arith) (λ z. omega arith))) ((c .before .before .before .before .before .before .collect-kids) .ensures)
 
--- src/walk.rt:146:9
 collect-defines-lvalue-kind-requires : (t : ℕ) → collect-defines-lvalue-lts.Need-kind-requires (collect-defines-lvalue-calls t) (collect-defines-lvalue-at t) collect-defines-lvalue.Post
 collect-defines-lvalue-kind-requires t c κs = search needs
 
--- src/walk.rt:148:20
 collect-defines-lvalue-value-requires : (t : ℕ) → collect-defines-lvalue-lts.Need-value-requires (collect-defines-lvalue-calls t) (collect-defines-lvalue-at t) collect-defines-lvalue.Post
 collect-defines-lvalue-value-requires t c κs = search needs
 
--- src/walk.rt:149:9
 collect-defines-lvalue-collect-assign-ident-requires :
     (t : ℕ) → collect-defines-lvalue-lts.Need-collect-assign-ident-requires (collect-defines-lvalue-calls t) (collect-defines-lvalue-at t) collect-defines-lvalue.Post
 collect-defines-lvalue-collect-assign-ident-requires t c κs = x-name-pre ((c .before .before .before .before .before .before .before .before .before .before .pre) .1 .one) ((c .before .before .before .value) .result) ((c .before .before .before .value) .ensures .is) ((sym ((c .before .before .before .before .before .kind) .ensures .is)) ∙ (c .before .before .before .before .if1) .taken)
 
--- src/walk.rt:149:9
 collect-defines-lvalue-same-length : (t : ℕ) → collect-defines-lvalue-lts.Need-same-length (collect-defines-lvalue-calls t) (collect-defines-lvalue-at t) collect-defines-lvalue.Post
 collect-defines-lvalue-same-length t c = search needs
 
--- src/walk.rt:149:9
 collect-defines-lvalue-same-length-2 : (t : ℕ) → collect-defines-lvalue-lts.Need-same-length-2 (collect-defines-lvalue-calls t) (collect-defines-lvalue-at t) collect-defines-lvalue.Post
 collect-defines-lvalue-same-length-2 t c = search needs
 
--- src/walk.rt:149:9
 collect-defines-lvalue-same-length-3 : (t : ℕ) → collect-defines-lvalue-lts.Need-same-length-3 (collect-defines-lvalue-calls t) (collect-defines-lvalue-at t) collect-defines-lvalue.Post
 collect-defines-lvalue-same-length-3 t c = search needs
 
--- src/walk.rt:149:9
 collect-defines-lvalue-returns : (t : ℕ) → collect-defines-lvalue-lts.Need-returns (collect-defines-lvalue-calls t) (collect-defines-lvalue-at t) collect-defines-lvalue.Post
 collect-defines-lvalue-returns t c = x-name ((c .before .before .before .before .before .before .before .before .before .before .before .before .before .before .before .before .before .pre) .1 .one) ((c .before .before .before .before .before .before .before .before .before .before .value) .result) ((c .before .before .before .before .before .before .before .before .before .before .value) .ensures .is) ((sym ((c .before .before .before .before .before .before .before .before .before .before .before .before .kind) .ensures .is)) ∙ (c .before .before .before .before .before .before .before .before .before .before .before .if1) .taken) ((c .before .before .before .before .before .before .collect-assign-ident) .ensures)
 
--- src/walk.rt:152:18
 collect-defines-lvalue-sub-collect-kids :
     (t : ℕ) → collect-defines-lvalue-lts.Need-sub-collect-kids (collect-defines-lvalue-calls t) (collect-defines-lvalue-at t) collect-defines-lvalue.Post
 collect-defines-lvalue-sub-collect-kids t c = omega (arith, x-long ((c .before .before .before .before .before .before .pre) .1 .one))
 
--- src/walk.rt:152:18
 collect-defines-lvalue-part-collect-kids-start :
     (t : ℕ) → collect-defines-lvalue-lts.Need-part-collect-kids-start (collect-defines-lvalue-calls t) (collect-defines-lvalue-at t) collect-defines-lvalue.Post
 collect-defines-lvalue-part-collect-kids-start t c = omega (arith, x-long ((c .before .before .before .before .before .before .pre) .1 .one))
 
--- src/walk.rt:152:18
 collect-defines-lvalue-part-collect-kids-end :
     (t : ℕ) → collect-defines-lvalue-lts.Need-part-collect-kids-end (collect-defines-lvalue-calls t) (collect-defines-lvalue-at t) collect-defines-lvalue.Post
 collect-defines-lvalue-part-collect-kids-end t c = omega (arith, x-long ((c .before .before .before .before .before .before .pre) .1 .one))
 
--- src/walk.rt:152:31
 collect-defines-lvalue-add-collect-kids :
     (t : ℕ) → collect-defines-lvalue-lts.Need-add-collect-kids (collect-defines-lvalue-calls t) (collect-defines-lvalue-at t) collect-defines-lvalue.Post
 collect-defines-lvalue-add-collect-kids t c = omega (arith, (c .before .before .before .before .before .before .before .pre) .1 .one .pre .within)
 
--- src/walk.rt:152:5
 collect-defines-lvalue-collect-kids-requires :
     (t : ℕ) → collect-defines-lvalue-lts.Need-collect-kids-requires (collect-defines-lvalue-calls t) (collect-defines-lvalue-at t) collect-defines-lvalue.Post
 collect-defines-lvalue-collect-kids-requires t c κs = let p = (c .before .before .before .before .before .before .before .before .before .before .pre) .1 .one in (omega (arith, (c .before .before .before .before .before .before .before .before .before .before .pre) .0, x-kids-length p, x-long p), x-kids-pre p)
 
--- src/walk.rt:133:1
 collect-defines-lvalue-same-length-4 : (t : ℕ) → collect-defines-lvalue-lts.Need-same-length-4 (collect-defines-lvalue-calls t) (collect-defines-lvalue-at t) collect-defines-lvalue.Post
 collect-defines-lvalue-same-length-4 t c = search needs
 
--- src/walk.rt:133:1
 collect-defines-lvalue-same-length-5 : (t : ℕ) → collect-defines-lvalue-lts.Need-same-length-5 (collect-defines-lvalue-calls t) (collect-defines-lvalue-at t) collect-defines-lvalue.Post
 collect-defines-lvalue-same-length-5 t c = search needs
 
--- src/walk.rt:133:1
 collect-defines-lvalue-same-length-6 : (t : ℕ) → collect-defines-lvalue-lts.Need-same-length-6 (collect-defines-lvalue-calls t) (collect-defines-lvalue-at t) collect-defines-lvalue.Post
 collect-defines-lvalue-same-length-6 t c = search needs
 
--- src/walk.rt:133:1
 collect-defines-lvalue-returns-2 : (t : ℕ) → collect-defines-lvalue-lts.Need-returns-2 (collect-defines-lvalue-calls t) (collect-defines-lvalue-at t) collect-defines-lvalue.Post
 collect-defines-lvalue-returns-2 t c =
     let h = (c .before .before .before .before .before .before .before .before .before .before .before .before .before .before .before .before .before .pre) .1 .high in let l = (c .before .before .before .before .before .before .before .before .before .before .before .before .before .before .before .before .before .pre) .1 .low in let e = (c .before .before .before .before .before .before .before .before .before .before .before .before .kind) .ensures .is in
     x-kids ((c .before .before .before .before .before .before .before .before .before .before .before .before .before .before .before .before .before .pre) .1 .one) (λ N kids. through-node N (marksOf ((c .before .before .before .before .before .before .before .before .before .before .before .before .before .before .before .before .before .args) .marks)) _ _ _ kids (through-is _ (omega arith) (λ z. omega arith) (λ z. omega (arith, (c .before .before .before .before .before .before .before .before .before .before .before .if1) .left)))) ((c .before .before .before .before .before .before .collect-kids) .ensures)
 
--- src/walk.rt:188:18
 collect-defines-param-sub-collect-kids : (t : ℕ) → collect-defines-param-lts.Need-sub-collect-kids (collect-defines-param-calls t) (collect-defines-param-at t) collect-defines-param.Post
 collect-defines-param-sub-collect-kids t c = omega (arith, x-long ((c .before .before .before .before .pre) .1 .one))
 
--- src/walk.rt:188:18
 collect-defines-param-part-collect-kids-start :
     (t : ℕ) → collect-defines-param-lts.Need-part-collect-kids-start (collect-defines-param-calls t) (collect-defines-param-at t) collect-defines-param.Post
 collect-defines-param-part-collect-kids-start t c = omega (arith, x-long ((c .before .before .before .before .pre) .1 .one))
 
--- src/walk.rt:188:18
 collect-defines-param-part-collect-kids-end :
     (t : ℕ) → collect-defines-param-lts.Need-part-collect-kids-end (collect-defines-param-calls t) (collect-defines-param-at t) collect-defines-param.Post
 collect-defines-param-part-collect-kids-end t c = omega (arith, x-long ((c .before .before .before .before .pre) .1 .one))
 
--- src/walk.rt:188:31
 collect-defines-param-add-collect-kids : (t : ℕ) → collect-defines-param-lts.Need-add-collect-kids (collect-defines-param-calls t) (collect-defines-param-at t) collect-defines-param.Post
 collect-defines-param-add-collect-kids t c = omega (arith, (c .before .before .before .before .before .pre) .1 .one .pre .within)
 
--- src/walk.rt:188:46
 collect-defines-param-as-param-requires :
     (t : ℕ) → collect-defines-param-lts.Need-as-param-requires (collect-defines-param-calls t) (collect-defines-param-at t) collect-defines-param.Post
 collect-defines-param-as-param-requires t c κs = search needs
 
--- src/walk.rt:188:5
 collect-defines-param-collect-kids-requires :
     (t : ℕ) → collect-defines-param-lts.Need-collect-kids-requires (collect-defines-param-calls t) (collect-defines-param-at t) collect-defines-param.Post
 collect-defines-param-collect-kids-requires t c κs = let p = (c .before .before .before .before .before .before .before .before .before .pre) .1 .one in (omega (arith, (c .before .before .before .before .before .before .before .before .before .pre) .0, x-kids-length p, x-long p), x-kids-pre p)
 
--- src/walk.rt:174:1
 collect-defines-param-same-length : (t : ℕ) → collect-defines-param-lts.Need-same-length (collect-defines-param-calls t) (collect-defines-param-at t) collect-defines-param.Post
 collect-defines-param-same-length t c = search needs
 
--- src/walk.rt:174:1
 collect-defines-param-same-length-2 : (t : ℕ) → collect-defines-param-lts.Need-same-length-2 (collect-defines-param-calls t) (collect-defines-param-at t) collect-defines-param.Post
 collect-defines-param-same-length-2 t c = search needs
 
--- src/walk.rt:174:1
 collect-defines-param-same-length-3 : (t : ℕ) → collect-defines-param-lts.Need-same-length-3 (collect-defines-param-calls t) (collect-defines-param-at t) collect-defines-param.Post
 collect-defines-param-same-length-3 t c = search needs
 
--- src/walk.rt:174:1
 collect-defines-param-returns : (t : ℕ) → collect-defines-param-lts.Need-returns (collect-defines-param-calls t) (collect-defines-param-at t) collect-defines-param.Post
 collect-defines-param-returns t c =
     let h = (c .before .before .before .before .before .before .before .before .before .before .before .before .before .before .before .before .pre) .1 .high in let l = (c .before .before .before .before .before .before .before .before .before .before .before .before .before .before .before .before .pre) .1 .low in
@@ -509,47 +434,36 @@ collect-kids-Inv-loop part at block marks binds₀ w₀ t₀ s₀ n₀ i₀ bind
 abbrev collect-kids-μ-loop : collect-kids-lts.MeasureT-loop
 collect-kids-μ-loop part at block marks binds₀ w₀ t₀ s₀ n₀ i₀ binds w t s n i = length part - i
 
--- src/walk.rt:60:5
 collect-kids-loop-holds : (t : ℕ) → collect-kids-lts.Need-loop-holds (collect-kids-calls t) (collect-kids-at t) collect-kids.Post collect-kids-Inv-loop collect-kids-μ-loop
 collect-kids-loop-holds t c = k-start ((c .before .before .before .before .args) .marks) ((c .before .before .before .before .pre) .1)
 
--- src/walk.rt:61:32
 collect-kids-sub-size : (t : ℕ) → collect-kids-lts.Need-sub-size (collect-kids-calls t) (collect-kids-at t) collect-kids.Post collect-kids-Inv-loop collect-kids-μ-loop
 collect-kids-sub-size t c = search needs
 
--- src/walk.rt:61:32
 collect-kids-part-size-start : (t : ℕ) → collect-kids-lts.Need-part-size-start (collect-kids-calls t) (collect-kids-at t) collect-kids.Post collect-kids-Inv-loop collect-kids-μ-loop
 collect-kids-part-size-start t c = search needs
 
--- src/walk.rt:61:32
 collect-kids-part-size-end : (t : ℕ) → collect-kids-lts.Need-part-size-end (collect-kids-calls t) (collect-kids-at t) collect-kids.Post collect-kids-Inv-loop collect-kids-μ-loop
 collect-kids-part-size-end t c = search needs
 
--- src/walk.rt:61:17
 collect-kids-size-requires : (t : ℕ) → collect-kids-lts.Need-size-requires (collect-kids-calls t) (collect-kids-at t) collect-kids.Post collect-kids-Inv-loop collect-kids-μ-loop
 collect-kids-size-requires t c κs = search needs
 
--- src/walk.rt:62:21
 collect-kids-mul-e : (t : ℕ) → collect-kids-lts.Need-mul-e (collect-kids-calls t) (collect-kids-at t) collect-kids.Post collect-kids-Inv-loop collect-kids-μ-loop
 collect-kids-mul-e t c = let f = k-node ((c .before .before .before .loop) .inv) ((c .before .before .loop-test) .taken) ((c .before .before .before .before .before .before .before .before .pre) .1 .ghost) in let e = ((c .size) .ensures .is ∙ size-from ((c .before .before .before .before .before .before .before .before .args) .part .now) ((c .before .before .before .loop) .i)) in omega (arith, (c .before .before .before .before .before .before .before .before .pre) .1 .within)
 
--- src/walk.rt:62:17
 collect-kids-add-e : (t : ℕ) → collect-kids-lts.Need-add-e (collect-kids-calls t) (collect-kids-at t) collect-kids.Post collect-kids-Inv-loop collect-kids-μ-loop
 collect-kids-add-e t c = let f = k-node ((c .before .before .before .loop) .inv) ((c .before .before .loop-test) .taken) ((c .before .before .before .before .before .before .before .before .pre) .1 .ghost) in let e = ((c .size) .ensures .is ∙ size-from ((c .before .before .before .before .before .before .before .before .args) .part .now) ((c .before .before .before .loop) .i)) in omega (arith, (c .before .before .before .before .before .before .before .before .pre) .1 .within)
 
--- src/walk.rt:63:26
 collect-kids-sub-collect-node : (t : ℕ) → collect-kids-lts.Need-sub-collect-node (collect-kids-calls t) (collect-kids-at t) collect-kids.Post collect-kids-Inv-loop collect-kids-μ-loop
 collect-kids-sub-collect-node t c = let f = k-node ((c .before .before .before .loop) .inv) ((c .before .before .loop-test) .taken) ((c .before .before .before .before .before .before .before .before .pre) .1 .ghost) in let e = ((c .size) .ensures .is ∙ size-from ((c .before .before .before .before .before .before .before .before .args) .part .now) ((c .before .before .before .loop) .i)) in omega (arith, (c .before .before .before .before .before .before .before .before .pre) .1 .within)
 
--- src/walk.rt:63:26
 collect-kids-part-collect-node-start : (t : ℕ) → collect-kids-lts.Need-part-collect-node-start (collect-kids-calls t) (collect-kids-at t) collect-kids.Post collect-kids-Inv-loop collect-kids-μ-loop
 collect-kids-part-collect-node-start t c = let f = k-node ((c .before .before .before .loop) .inv) ((c .before .before .loop-test) .taken) ((c .before .before .before .before .before .before .before .before .pre) .1 .ghost) in let e = ((c .size) .ensures .is ∙ size-from ((c .before .before .before .before .before .before .before .before .args) .part .now) ((c .before .before .before .loop) .i)) in omega (arith, (c .before .before .before .before .before .before .before .before .pre) .1 .within)
 
--- src/walk.rt:63:26
 collect-kids-part-collect-node-end : (t : ℕ) → collect-kids-lts.Need-part-collect-node-end (collect-kids-calls t) (collect-kids-at t) collect-kids.Post collect-kids-Inv-loop collect-kids-μ-loop
 collect-kids-part-collect-node-end t c = let f = k-node ((c .before .before .before .loop) .inv) ((c .before .before .loop-test) .taken) ((c .before .before .before .before .before .before .before .before .pre) .1 .ghost) in let e = ((c .size) .ensures .is ∙ size-from ((c .before .before .before .before .before .before .before .before .args) .part .now) ((c .before .before .before .loop) .i)) in omega (arith, (c .before .before .before .before .before .before .before .before .pre) .1 .within)
 
--- src/walk.rt:63:9
 collect-kids-collect-node-requires : (t : ℕ) → collect-kids-lts.Need-collect-node-requires (collect-kids-calls t) (collect-kids-at t) collect-kids.Post collect-kids-Inv-loop collect-kids-μ-loop
 collect-kids-collect-node-requires t c κs =
     let g = (c .before .before .before .before .before .before .before .before .before .before .before .before .pre) .1 .ghost in let e = ((c .before .before .before .before .size) .ensures .is ∙ size-from ((c .before .before .before .before .before .before .before .before .before .before .before .before .args) .part .now) ((c .before .before .before .before .before .before .before .loop) .i)) in
@@ -557,128 +471,98 @@ collect-kids-collect-node-requires t c κs =
     let w = k-length ((c .before .before .before .before .before .before .before .loop) .inv) ((c .before .before .before .before .before .before .loop-test) .taken) ((c .before .before .before .before .size) .result) e g in
     (omega (arith, (c .before .before .before .before .before .before .before .before .before .before .before .before .pre) .0), k-pre ((c .before .before .before .before .before .before .before .loop) .inv) ((c .before .before .before .before .before .before .loop-test) .taken) ((c .before .before .before .before .size) .result) e ((c .before .before .before .before .before .before .before .before .before .before .before .before .pre) .1 .within) g)
 
--- src/walk.rt:64:9
 collect-kids-add-n : (t : ℕ) → collect-kids-lts.Need-add-n (collect-kids-calls t) (collect-kids-at t) collect-kids.Post collect-kids-Inv-loop collect-kids-μ-loop
 collect-kids-add-n t c = let f = k-node ((c .before .before .before .before .before .before .before .before .before .before .before .before .before .before .loop) .inv) ((c .before .before .before .before .before .before .before .before .before .before .before .before .before .loop-test) .taken) ((c .before .before .before .before .before .before .before .before .before .before .before .before .before .before .before .before .before .before .before .pre) .1 .ghost) in let e = ((c .before .before .before .before .before .before .before .before .before .before .before .size) .ensures .is ∙ size-from ((c .before .before .before .before .before .before .before .before .before .before .before .before .before .before .before .before .before .before .before .args) .part .now) ((c .before .before .before .before .before .before .before .before .before .before .before .before .before .before .loop) .i)) in omega (arith, (c .before .before .before .before .before .before .before .before .before .before .before .before .before .before .before .before .before .before .before .pre) .1 .within, (c .before .before .before .before .before .before .before .before .before .before .before .before .before .before .loop) .inv .number)
 
--- src/walk.rt:60:5
 collect-kids-loop-less : (t : ℕ) → collect-kids-lts.Need-loop-less (collect-kids-calls t) (collect-kids-at t) collect-kids.Post collect-kids-Inv-loop collect-kids-μ-loop
 collect-kids-loop-less t c = let f = k-node ((c .before .before .before .before .before .before .before .before .before .before .before .before .before .before .loop) .inv) ((c .before .before .before .before .before .before .before .before .before .before .before .before .before .loop-test) .taken) ((c .before .before .before .before .before .before .before .before .before .before .before .before .before .before .before .before .before .before .before .pre) .1 .ghost) in let e = ((c .before .before .before .before .before .before .before .before .before .before .before .size) .ensures .is ∙ size-from ((c .before .before .before .before .before .before .before .before .before .before .before .before .before .before .before .before .before .before .before .args) .part .now) ((c .before .before .before .before .before .before .before .before .before .before .before .before .before .before .loop) .i)) in omega (arith, (c .before .before .before .before .before .before .before .before .before .before .before .before .before .before .before .before .before .before .before .pre) .1 .within, (c .before .before .before .before .before .before .before .before .before .before .before .before .before .before .loop) .inv .number)
 
--- src/walk.rt:60:5
 collect-kids-loop-again : (t : ℕ) → collect-kids-lts.Need-loop-again (collect-kids-calls t) (collect-kids-at t) collect-kids.Post collect-kids-Inv-loop collect-kids-μ-loop
 collect-kids-loop-again t c =
     let k = (c .before .before .before .before .before .before .collect-node) in
     k-more ((c .before .before .before .before .before .before .before .before .before .before .before .before .before .before .loop) .inv) ((c .before .before .before .before .before .before .before .before .before .before .before .before .before .loop-test) .taken) ((c .before .before .before .before .before .before .before .before .before .before .before .size) .result) (((c .before .before .before .before .before .before .before .before .before .before .before .size) .ensures .is ∙ size-from ((c .before .before .before .before .before .before .before .before .before .before .before .before .before .before .before .before .before .before .before .args) .part .now) ((c .before .before .before .before .before .before .before .before .before .before .before .before .before .before .loop) .i))) (k .kept .1 .1 .1 .1 .1 .0) (k .kept .1 .1 .1 .1 .1 .1 .0) (k .kept .1 .1 .1 .1 .1 .1 .1 .0) ((c .before .before .before .before .before .before .before .before .before .before .before .before .before .before .before .before .before .before .before .pre) .1 .ghost) (k .ensures)
 
--- src/walk.rt:44:1
 collect-kids-same-length : (t : ℕ) → collect-kids-lts.Need-same-length (collect-kids-calls t) (collect-kids-at t) collect-kids.Post collect-kids-Inv-loop collect-kids-μ-loop
 collect-kids-same-length t c = (c .before .loop) .inv .kept
 
--- src/walk.rt:44:1
 collect-kids-same-length-2 : (t : ℕ) → collect-kids-lts.Need-same-length-2 (collect-kids-calls t) (collect-kids-at t) collect-kids.Post collect-kids-Inv-loop collect-kids-μ-loop
 collect-kids-same-length-2 t c = search needs
 
--- src/walk.rt:44:1
 collect-kids-same-length-3 : (t : ℕ) → collect-kids-lts.Need-same-length-3 (collect-kids-calls t) (collect-kids-at t) collect-kids.Post collect-kids-Inv-loop collect-kids-μ-loop
 collect-kids-same-length-3 t c = search needs
 
--- src/walk.rt:44:1
 collect-kids-returns : (t : ℕ) → collect-kids-lts.Need-returns (collect-kids-calls t) (collect-kids-at t) collect-kids.Post collect-kids-Inv-loop collect-kids-μ-loop
 collect-kids-returns t c = k-end ((c .before .loop) .inv) ((c .loop-test) .left)
 
--- src/walk.rt:84:9
 collect-node-kind-requires : (t : ℕ) → collect-node-lts.Need-kind-requires (collect-node-calls t) (collect-node-at t) collect-node.Post
 collect-node-kind-requires t c κs = search needs
 
--- src/walk.rt:86:9
 collect-node-collect-defines-requires : (t : ℕ) → collect-node-lts.Need-collect-defines-requires (collect-node-calls t) (collect-node-at t) collect-node.Post
 collect-node-collect-defines-requires t c κs = let e = (c .before .before .before .before .kind) .ensures .is in (omega (arith, (c .before .before .before .before .before .before .before .before .before .pre) .0), record { low = omega arith; high = omega (arith, (c .before .before .before .if1) .taken); one = (c .before .before .before .before .before .before .before .before .before .pre) .1 })
 
--- src/walk.rt:86:9
 collect-node-same-length : (t : ℕ) → collect-node-lts.Need-same-length (collect-node-calls t) (collect-node-at t) collect-node.Post
 collect-node-same-length t c = search needs
 
--- src/walk.rt:86:9
 collect-node-same-length-2 : (t : ℕ) → collect-node-lts.Need-same-length-2 (collect-node-calls t) (collect-node-at t) collect-node.Post
 collect-node-same-length-2 t c = search needs
 
--- src/walk.rt:86:9
 collect-node-same-length-3 : (t : ℕ) → collect-node-lts.Need-same-length-3 (collect-node-calls t) (collect-node-at t) collect-node.Post
 collect-node-same-length-3 t c = search needs
 
--- src/walk.rt:86:9
 collect-node-returns : (t : ℕ) → collect-node-lts.Need-returns (collect-node-calls t) (collect-node-at t) collect-node.Post
 collect-node-returns t c = (c .before .before .before .before .before .before .collect-defines) .ensures
 
--- src/walk.rt:89:9
 collect-node-collect-defines-lvalue-requires :
     (t : ℕ) → collect-node-lts.Need-collect-defines-lvalue-requires (collect-node-calls t) (collect-node-at t) collect-node.Post
 collect-node-collect-defines-lvalue-requires t c κs = let e = (c .before .before .before .before .before .kind) .ensures .is in (omega (arith, (c .before .before .before .before .before .before .before .before .before .before .pre) .0), record { low = omega (arith, (c .before .before .before .before .if1) .left); high = omega (arith, (c .before .before .before .if2) .taken); one = (c .before .before .before .before .before .before .before .before .before .before .pre) .1 })
 
--- src/walk.rt:89:9
 collect-node-same-length-4 : (t : ℕ) → collect-node-lts.Need-same-length-4 (collect-node-calls t) (collect-node-at t) collect-node.Post
 collect-node-same-length-4 t c = search needs
 
--- src/walk.rt:89:9
 collect-node-same-length-5 : (t : ℕ) → collect-node-lts.Need-same-length-5 (collect-node-calls t) (collect-node-at t) collect-node.Post
 collect-node-same-length-5 t c = search needs
 
--- src/walk.rt:89:9
 collect-node-same-length-6 : (t : ℕ) → collect-node-lts.Need-same-length-6 (collect-node-calls t) (collect-node-at t) collect-node.Post
 collect-node-same-length-6 t c = search needs
 
--- src/walk.rt:89:9
 collect-node-returns-2 : (t : ℕ) → collect-node-lts.Need-returns-2 (collect-node-calls t) (collect-node-at t) collect-node.Post
 collect-node-returns-2 t c = (c .before .before .before .before .before .before .collect-defines-lvalue) .ensures
 
--- src/walk.rt:92:9
 collect-node-returns-3 : (t : ℕ) → collect-node-lts.Need-returns-3 (collect-node-calls t) (collect-node-at t) collect-node.Post
 collect-node-returns-3 t c = let e = (c .before .before .before .kind) .ensures .is in x-shut ((c .before .before .before .before .before .before .before .before .pre) .1) ((c .before .before .before .before .before .before .before .before .args) .marks) (shut-is _ (omega (arith, (c .before .if2) .left)) (λ z. omega (arith, (c .if3) .taken)))
 
--- src/walk.rt:95:9
 collect-node-collect-defines-clause-requires :
     (t : ℕ) → collect-node-lts.Need-collect-defines-clause-requires (collect-node-calls t) (collect-node-at t) collect-node.Post
 collect-node-collect-defines-clause-requires t c κs = let e = (c .before .before .before .before .before .before .before .kind) .ensures .is in (omega (arith, (c .before .before .before .before .before .before .before .before .before .before .before .before .pre) .0), record { low = omega (arith, (c .before .before .before .before .if3) .left); high = omega (arith, (c .before .before .before .if4) .taken); one = (c .before .before .before .before .before .before .before .before .before .before .before .before .pre) .1 })
 
--- src/walk.rt:95:9
 collect-node-same-length-7 : (t : ℕ) → collect-node-lts.Need-same-length-7 (collect-node-calls t) (collect-node-at t) collect-node.Post
 collect-node-same-length-7 t c = search needs
 
--- src/walk.rt:95:9
 collect-node-same-length-8 : (t : ℕ) → collect-node-lts.Need-same-length-8 (collect-node-calls t) (collect-node-at t) collect-node.Post
 collect-node-same-length-8 t c = search needs
 
--- src/walk.rt:95:9
 collect-node-same-length-9 : (t : ℕ) → collect-node-lts.Need-same-length-9 (collect-node-calls t) (collect-node-at t) collect-node.Post
 collect-node-same-length-9 t c = search needs
 
--- src/walk.rt:95:9
 collect-node-returns-4 : (t : ℕ) → collect-node-lts.Need-returns-4 (collect-node-calls t) (collect-node-at t) collect-node.Post
 collect-node-returns-4 t c = (c .before .before .before .before .before .before .collect-defines-clause) .ensures
 
--- src/walk.rt:98:9
 collect-node-collect-defines-param-requires :
     (t : ℕ) → collect-node-lts.Need-collect-defines-param-requires (collect-node-calls t) (collect-node-at t) collect-node.Post
 collect-node-collect-defines-param-requires t c κs = let e = (c .before .before .before .before .before .before .before .before .kind) .ensures .is in (omega (arith, (c .before .before .before .before .before .before .before .before .before .before .before .before .before .pre) .0), record { low = omega (arith, (c .before .before .before .if5) .taken); high = omega (arith, (c .before .before .before .if5) .taken); one = (c .before .before .before .before .before .before .before .before .before .before .before .before .before .pre) .1 })
 
--- src/walk.rt:98:9
 collect-node-same-length-10 : (t : ℕ) → collect-node-lts.Need-same-length-10 (collect-node-calls t) (collect-node-at t) collect-node.Post
 collect-node-same-length-10 t c = search needs
 
--- src/walk.rt:98:9
 collect-node-same-length-11 : (t : ℕ) → collect-node-lts.Need-same-length-11 (collect-node-calls t) (collect-node-at t) collect-node.Post
 collect-node-same-length-11 t c = search needs
 
--- src/walk.rt:98:9
 collect-node-same-length-12 : (t : ℕ) → collect-node-lts.Need-same-length-12 (collect-node-calls t) (collect-node-at t) collect-node.Post
 collect-node-same-length-12 t c = search needs
 
--- src/walk.rt:98:9
 collect-node-returns-5 : (t : ℕ) → collect-node-lts.Need-returns-5 (collect-node-calls t) (collect-node-at t) collect-node.Post
 collect-node-returns-5 t c = (c .before .before .before .before .before .before .collect-defines-param) .ensures
 
--- src/walk.rt:71:1
 collect-node-returns-6 : (t : ℕ) → collect-node-lts.Need-returns-6 (collect-node-calls t) (collect-node-at t) collect-node.Post
 collect-node-returns-6 t c = let e = (c .before .before .before .before .before .kind) .ensures .is in x-shut ((c .before .before .before .before .before .before .before .before .before .before .pre) .1) ((c .before .before .before .before .before .before .before .before .before .before .args) .marks) (shut-is _ (omega (arith, (c .before .before .if3) .left)) (λ z. omega (arith, (c .before .if4) .left, (c .if5) .left)))
 
