@@ -5,7 +5,8 @@ import unittest
 from pathlib import Path
 
 from nodefile import KINDS, NAMED, SCOPED, File, Node, pack, preorder, unpack
-from starlark_tree import Refused, convert
+from starlark_source import Refused
+from starlark_tree import convert
 
 TOOLS = Path(__file__).parent
 

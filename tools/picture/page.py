@@ -1,0 +1,2 @@
+def page_of(script, title):
+    return ""
