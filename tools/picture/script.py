@@ -1,6 +1,7 @@
 """The text of a script, cut at its names, with every byte made fit to be seen."""
 
 import re
+import unicodedata
 
 from .listing import ERRORS, Unfit
 from .meaning import ERROR, GLOBAL, MODULE
@@ -19,6 +20,12 @@ def escape(character):
     return f"\\x{code:02x}" if code < 0x100 else f"\\u{code:04x}" if code < 0x10000 else f"\\U{code:08x}"
 
 
+def width(text):
+    """How many columns a text takes."""
+    return sum(0 if unicodedata.combining(each) else 2 if unicodedata.east_asian_width(each) in "WF" else 1
+               for each in text)
+
+
 def label(meaning, arrow="<"):
     """What stands beside a name: m0, g0, 2.5 (scope 2, slot 5), 3.1<2.5 (copied from there), or an error."""
     if meaning.kind == ERROR:
@@ -30,7 +37,7 @@ def label(meaning, arrow="<"):
 
 
 class Script:
-    """Lines of the script, each a list of texts with their marks; `place` finds a byte's line and column."""
+    """The script's text; every mark is where its name is spelled, and no two overlap."""
 
     def __init__(self, data, resolved):
         self.data, self.resolved = data, resolved
@@ -49,20 +56,21 @@ class Script:
         line = sum(start <= offset for start in self.starts)
         return line, len(self.data[self.starts[line - 1]:offset].decode(errors="replace")) + 1
 
-    def lines(self):
-        """Each line as its number and its texts, a text with its mark or None."""
+    def lines(self, spots):
+        """Each line as its number and its texts, a text with its spot (from `offset` to `end`) or None."""
         number, line, at = 1, [], 0
-        for mark in [*self.resolved.marks, None]:
-            first, *more = LINE_END.split(self.data[at:mark.offset if mark else len(self.data)])
+        for spot in [*spots, None]:
+            first, *more = LINE_END.split(self.data[at:spot.offset if spot else len(self.data)])
             line.append((self.between(first), None))
             for text in more:
                 yield number, line
                 number += 1
                 line = [(self.between(text), None)]
-            if mark:
-                line.append((shown(mark.name), mark))
-                number += len(LINE_END.findall(mark.name))
-                at = mark.end
+            if spot:
+                text = self.data[spot.offset:spot.end]
+                line.append((shown(text), spot))
+                number += len(LINE_END.findall(text))
+                at = spot.end
         if any(text for text, _ in line):
             yield number, line
 

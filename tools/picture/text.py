@@ -1,9 +1,7 @@
 """The picture as plain text: under each line of the script the marks of its names, then every slot."""
 
-import unicodedata
-
 from .facts import HEADINGS, at, cells, errors, module_rows, scope_rows, scope_title
-from .script import label, shown
+from .script import label, shown, width
 
 WIDTH = 100
 GUTTER = 7  # `1234 | `
@@ -18,19 +16,13 @@ def text_of(script):
     """The lines of the picture."""
     yield LEGEND
     yield ""
-    for number, pieces in script.lines():
+    for number, pieces in script.lines(script.resolved.marks):
         gutter = f"{number:4} | "
         for part in wrapped(pieces):
             yield (gutter + "".join(text for text, _ in part)).rstrip()
             yield from (f"     | {row}" for row in rows_of(part))
             gutter = "     : "
     yield from tables(script)
-
-
-def width(text):
-    """How many columns of a terminal a text takes."""
-    return sum(0 if unicodedata.combining(each) else 2 if unicodedata.east_asian_width(each) in "WF" else 1
-               for each in text)
 
 
 def mark_text(mark):

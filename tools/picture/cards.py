@@ -1,0 +1,117 @@
+"""The cards of the page: what a name means, where it is declared, its copies, its readers."""
+
+from html import escape
+
+from .facts import at, name_of, scope_title
+from .listing import ERRORS
+from .meaning import ERROR, GLOBAL, LOCAL
+from .script import label, shown
+
+WHY = {
+    1: "No scope around it, nor the module, nor the globals have this name.",
+    2: "It means a local variable; a type may not read one.",
+}
+
+
+def link(target, text):
+    return f'<a href="#{target}">{text}</a>'
+
+
+class Cards:
+    """A card for each meaning that the page shows, made when it is first asked for."""
+
+    def __init__(self, script):
+        self.script, self.resolved = script, script.resolved
+        self.made = {}
+        self.readers, self.setters = {}, {}
+        for mark in self.resolved.marks:
+            held = self.setters if mark.sets else self.readers
+            held.setdefault(self.group(mark.meaning, mark.node), []).append(mark)
+
+    def group(self, meaning, node=None):
+        """What all names of one variable have in common; an error has it alone."""
+        if meaning.kind == ERROR:
+            return f"e{node}"
+        return f"g{meaning.number}" if meaning.kind == GLOBAL else f"b{meaning.binding}"
+
+    def attributes(self, meaning, node=None):
+        """The attributes by which an element shows a card and lights up its variable."""
+        group = self.group(meaning, node)
+        key = group + (f"-{meaning.chain[0][0]}" if meaning.copied else "")
+        if key not in self.made:
+            self.made[key] = self.article(f"card-{key}", meaning, group)
+        copies = " ".join(f"s{scope}" for scope, _ in meaning.chain[:-1])
+        source = None if meaning.binding is None else self.resolved.bindings[meaning.binding].source
+        declared = "" if source is None else f' data-declared="n{source}"'
+        return f'data-of="{group}" data-card="card-{key}" data-copies="{copies}"{declared} aria-describedby="card-{key}"'
+
+    def target(self, mark):
+        """Where a click on a name leads: the declaration, or its row of a table."""
+        meaning = mark.meaning
+        if meaning.kind == ERROR:
+            return f"error{mark.node}"
+        source = None if meaning.binding is None else self.resolved.bindings[meaning.binding].source
+        if source is None or mark.sets:
+            return f"row-{label(meaning)}"
+        return f"n{source}"
+
+    def articles(self):
+        return self.made.values()
+
+    def article(self, key, meaning, group):
+        lines = {ERROR: self.error, GLOBAL: self.global_}.get(meaning.kind, self.variable)(meaning, group)
+        return f'<article class="card {meaning.kind}" id="{key}" hidden>{"".join(lines)}</article>'
+
+    def error(self, meaning, group):
+        name = shown(self.readers[group][0].name)
+        yield title(name, f"error: {ERRORS[meaning.number]}", "error")
+        yield f"<p>{WHY[meaning.number]}</p>"
+
+    def global_(self, meaning, group):
+        yield title(shown(self.resolved.file.names[self.resolved.file.globals[meaning.number]]),
+                    f"global {meaning.number}", "global")
+        yield "<dl>" + self.places("Read at", self.readers.get(group, [])) + "</dl>"
+
+    def variable(self, meaning, group):
+        binding = self.resolved.bindings[meaning.binding]
+        kind = "local, copied" if meaning.copied else "local" if meaning.kind == LOCAL else "module"
+        yield title(name_of(self.script, meaning.binding), kind, "copied" if meaning.copied else meaning.kind)
+        yield from self.chain(meaning) if meaning.kind == LOCAL else [f"<p>Slot {meaning.number} of the module.</p>"]
+        yield "<dl>" + self.declaration(binding)
+        bound = "any number of times" if binding.any else "once"
+        yield f"<dt>Is</dt><dd>{'public' if binding.public else 'private'}, bound {bound}"
+        yield ", captured by a function inside</dd>" if binding.captured else "</dd>"
+        yield self.places("Bound at", self.setters.get(group, []))
+        yield self.places("Read at", self.readers.get(group, [])) + self.namesakes(meaning.binding) + "</dl>"
+
+    def namesakes(self, number):
+        """The other variables with this name."""
+        _, name = self.resolved.variable(number)
+        others = [self.resolved.own(other) for (_, spelled), other in self.resolved.bound.items()
+                  if spelled == name and other != number]
+        links = ", ".join(link(f"row-{label(own)}", label(own)) for own in others)
+        return f"<dt>Not</dt><dd>{links}, which has the same name</dd>" if others else ""
+
+    def declaration(self, binding):
+        if binding.source is None:
+            return "<dt>Declared</dt><dd>in the module's list, before this script</dd>"
+        offset = self.resolved.tree.nodes[binding.source].offset
+        line, _ = self.script.place(offset)
+        return (f"<dt>Declared</dt><dd>{link(f'n{binding.source}', at(self.script, offset))}"
+                f"<pre>{escape(self.script.line_text(line))}</pre></dd>")
+
+    def chain(self, meaning):
+        """Where the value is, and each copy on the way out to the variable's own slot."""
+        yield '<ol class="chain">'
+        for number, (scope, slot) in enumerate(meaning.chain):
+            yield (f"<li>{'copied from' if number else 'in'} {link(f'row-{scope}.{slot}', f'{scope}.{slot}')}, "
+                   f"slot {slot} of {escape(scope_title(self.script, scope))}</li>")
+        yield "</ol>"
+
+    def places(self, what, marks):
+        links = ", ".join(link(f"n{mark.node}", at(self.script, mark.offset)) for mark in marks)
+        return f"<dt>{what}</dt><dd>{links or 'nowhere'}</dd>"
+
+
+def title(name, what, kind):
+    return f'<h2><code>{escape(name)}</code> <span class="badge {kind}">{what}</span></h2>'
