@@ -1,13 +1,16 @@
 """A headless Chromium, driven over its DevTools pipe with the standard library alone."""
 
 import base64
+import fcntl
 import json
 import os
 import shutil
 import subprocess
 import tempfile
+import threading
 
 COMMANDS = ("chromium", "chromium-browser", "google-chrome")
+PATIENCE = 120  # seconds, then the browser is ended
 
 
 def installed():
@@ -27,9 +30,9 @@ class Browser:
     def __enter__(self):
         self.profile = tempfile.TemporaryDirectory(ignore_cleanup_errors=True)
         to_browser, self.out = os.pipe()
-        self.back, from_browser = os.pipe()
-        # Both are moved out of the way of 3 and 4, the numbers that Chromium reads and writes.
-        reading, writing = (os.dup2(each, number) for each, number in ((to_browser, 103), (from_browser, 104)))
+        back, from_browser = os.pipe()
+        # Copies out of the way of 3 and 4, the numbers that Chromium reads and writes.
+        reading, writing = (fcntl.fcntl(each, fcntl.F_DUPFD, 10) for each in (to_browser, from_browser))
 
         def move():
             os.dup2(reading, 3)
@@ -41,7 +44,9 @@ class Browser:
             preexec_fn=move, close_fds=False, stdin=subprocess.DEVNULL, stdout=subprocess.DEVNULL, stderr=subprocess.DEVNULL)
         for each in (to_browser, from_browser, reading, writing):
             os.close(each)
-        self.incoming = os.fdopen(self.back, "rb")
+        self.watchdog = threading.Timer(PATIENCE, self.process.kill)
+        self.watchdog.start()
+        self.incoming = os.fdopen(back, "rb")
         page = next(each for each in self.ask("Target.getTargets")["targetInfos"] if each["type"] == "page")
         self.session = self.ask("Target.attachToTarget", targetId=page["targetId"], flatten=True)["sessionId"]
         for domain in ("Page", "Runtime", "Network", "Log"):
@@ -53,6 +58,7 @@ class Browser:
         return self
 
     def __exit__(self, *_):
+        self.watchdog.cancel()
         os.close(self.out)
         self.process.terminate()
         self.process.wait()

@@ -12,6 +12,8 @@ WHY = {
     2: "It means a local variable; a type may not read one.",
 }
 
+MOST_PLACES = 40  # as many places a card lists
+
 
 def link(target, text):
     return f'<a href="#{target}">{text}</a>'
@@ -37,7 +39,7 @@ class Cards:
     def attributes(self, meaning, node=None):
         """The attributes by which an element shows a card and lights up its variable."""
         group = self.group(meaning, node)
-        key = group + (f"-{meaning.chain[0][0]}" if meaning.copied else "")
+        key = group + ("-%d.%d" % meaning.chain[0] if meaning.copied else "")
         if key not in self.made:
             self.made[key] = self.article(f"card-{key}", meaning, group)
         copies = " ".join(f"s{scope}" for scope, _ in meaning.chain[:-1])
@@ -89,8 +91,8 @@ class Cards:
         _, name = self.resolved.variable(number)
         others = [self.resolved.own(other) for (_, spelled), other in self.resolved.bound.items()
                   if spelled == name and other != number]
-        links = ", ".join(link(f"row-{label(own)}", label(own)) for own in others)
-        return f"<dt>Not</dt><dd>{links}, which has the same name</dd>" if others else ""
+        links = ", ".join(link(f"row-{label(own)}", label(own)) for own in others[:MOST_PLACES])
+        return f"<dt>Not</dt><dd>{links}: the same name, another variable</dd>" if others else ""
 
     def declaration(self, binding):
         if binding.source is None:
@@ -109,8 +111,9 @@ class Cards:
         yield "</ol>"
 
     def places(self, what, marks):
-        links = ", ".join(link(f"n{mark.node}", at(self.script, mark.offset)) for mark in marks)
-        return f"<dt>{what}</dt><dd>{links or 'nowhere'}</dd>"
+        links = ", ".join(link(f"n{mark.node}", at(self.script, mark.offset)) for mark in marks[:MOST_PLACES])
+        more = f" and {len(marks) - MOST_PLACES} more" if len(marks) > MOST_PLACES else ""
+        return f"<dt>{what}</dt><dd>{links or 'nowhere'}{more}</dd>"
 
 
 def title(name, what, kind):

@@ -1,5 +1,6 @@
 """The text of a script, cut at its names, with every byte made fit to be seen."""
 
+import bisect
 import re
 import unicodedata
 
@@ -53,7 +54,7 @@ class Script:
 
     def place(self, offset):
         """The line and the column of a byte, both from 1; columns count characters."""
-        line = sum(start <= offset for start in self.starts)
+        line = bisect.bisect_right(self.starts, offset)
         return line, len(self.data[self.starts[line - 1]:offset].decode(errors="replace")) + 1
 
     def lines(self, spots):

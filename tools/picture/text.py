@@ -87,13 +87,23 @@ def tables(script):
 
 
 def table(title, rows, headings=None):
-    """A title and rows in columns; nothing without rows."""
+    """A title and rows in columns, the second column the names; nothing without rows."""
     if not rows:
         return
     yield ""
-    yield title
+    yield clipped(title, WIDTH)
     rows = [headings, *rows] if headings else rows
-    widths = [min(max(map(width, column)), 30) for column in zip(*rows)]
+    widths = [max(map(width, column)) for column in zip(*rows)]
+    widths[1] = min(widths[1], WIDTH - 2 * len(widths) - widths[0] - sum(widths[2:]))
     for row in rows:
-        padded = (cell + " " * (room - width(cell)) for cell, room in zip(row, widths))
-        yield "  " + "  ".join(padded).rstrip()
+        texts = (clipped(cell, room) for cell, room in zip(row, widths))
+        yield "".join(f"  {text}{' ' * (room - width(text))}" for text, room in zip(texts, widths)).rstrip()
+
+
+def clipped(text, room):
+    """A text that fits, its end as dots where it does not."""
+    if width(text) <= room:
+        return text
+    while width(text) > room - 2:
+        text = text[:-1]
+    return text + ".."

@@ -1,14 +1,18 @@
-"""Tests of the tools: python3 -m unittest discover -s tools"""
+"""Node files, and Starlark made into them."""
 
+import argparse
 import subprocess
+import tempfile
 import unittest
 from pathlib import Path
 
+from exporting import UNIVERSE, exported
 from nodefile import KINDS, NAMED, SCOPED, File, Node, pack, preorder, unpack
 from starlark_source import Refused
 from starlark_tree import convert
 
-TOOLS = Path(__file__).parent
+TOOLS = Path(__file__).resolve().parent
+SAMPLES = TOOLS.parent / "samples"
 
 
 def outline(source):
@@ -94,16 +98,74 @@ class Conversion(unittest.TestCase):
             ("a\n" * 1024, "1024:1: more than 2048 nodes"),
             ("lambda: 1\n" * 256, "256:1: more than 255 functions"),
             ("x = " + "y" * 256, "1:5: more than 255 bytes in a name"),
+            ("lambda: [" + "not " * 300 + "x]", "1:254: more than 64 levels of nodes"),
+            ("if a: b\n" + "elif a: b\n" * 100, "63:9: more than 64 levels of nodes"),
+            ("f(" + ", ".join(f"a{n}" for n in range(1025)) + ")", "1:6054: more than 1024 names"),
+            ("f(\n" + ",\n".join(f"{n:0>255}".replace("0", "x") for n in range(65)) + ")", "66:1: more than 16384 bytes of names"),
+            ("#" * (1 << 24) + "\nx", "2:1: more than 16777215 bytes before a node"),
+            ("x = 1\n\0", "2:1: a zero byte is not Starlark"),
             ("x = ", "1:5: invalid syntax"),
+            ("---", "1:4: invalid syntax"),
         ):
             with self.subTest(source[:40]), self.assertRaises(Refused) as refused:
                 convert(source.encode())
             self.assertEqual(str(refused.exception), message)
 
 
+class Lists(unittest.TestCase):
+    """Globals and module entries, from files."""
+
+    def export(self, source=b"x", **lists):
+        with tempfile.TemporaryDirectory() as folder:
+            options = {"globals": None, "entries": None, "globals_default": False, "reexport": False}
+            for option, content in lists.items():
+                options[option] = content
+                if isinstance(content, bytes):
+                    options[option] = Path(folder, option)
+                    options[option].write_bytes(content)
+            try:
+                return exported(argparse.Namespace(source=Path("s.star"), **options), source)
+            except Refused as error:
+                return str(error).removeprefix(f"{folder}/")
+
+    def test_lists(self):
+        file = self.export(globals=b"a\n\n  x\r\nb", entries=b"x public 3\ny private 0\n", reexport=True)
+        self.assertEqual(file.names, [b"x", b"y", b"a", b"b"])
+        self.assertEqual((file.entries, file.globals), ([(0, True, 3), (1, False, 0)], [2, 0, 3]))
+        self.assertTrue(file.reexport)
+
+    def test_default_globals_come_first(self):
+        file = self.export(globals=b"mine\nlen\n", globals_default=True)
+        self.assertEqual([file.names[name].decode() for name in file.globals], [*UNIVERSE, "mine"])
+
+    def test_refusals_say_where(self):
+        many = b"".join(b"%0200d\n" % n for n in range(82))
+        for lists, message in (
+            ({"source": b"x ="}, "s.star:1:4: invalid syntax"),
+            ({"globals": b"a\n  a"}, "globals:2:3: `a` a second time"),
+            ({"globals": b"a b"}, "globals:1:1: 2 words, 1 wanted"),
+            ({"globals": b"a\n\xc3\xa9\xff"}, "globals:2:2: not UTF-8"),
+            ({"globals": b"a" * 256}, "globals:1:1: more than 255 bytes in a name"),
+            ({"globals": b"".join(b"g%d\n" % n for n in range(257))}, "globals:257:1: more than 256 globals"),
+            ({"globals": many}, "globals:82:1: more than 16384 bytes of names, the script's own included"),
+            ({"entries": b"a public"}, "entries:1:1: 2 words, 3 wanted"),
+            ({"entries": b"a hidden 0"}, "entries:1:3: `public` or `private` is wanted"),
+            ({"entries": b"a public 32768"}, "entries:1:10: a slot from 0 to 32767 is wanted"),
+            ({"entries": "a public \u0663".encode()}, "entries:1:10: a slot from 0 to 32767 is wanted"),
+            ({"entries": b"".join(b"e%d public 0\n" % n for n in range(257))}, "entries:257:1: more than 256 module entries"),
+            ({"source": b"f(" + b", ".join(b"a%d" % n for n in range(1023)) + b")", "globals": b"f\nlast"},
+             "globals:2:1: more than 1024 names, the script's own included"),
+        ):
+            with self.subTest(message):
+                self.assertEqual(self.export(**lists), message)
+
+
 class Programs(unittest.TestCase):
+    def run_star2nodes(self, *arguments, source=b""):
+        return subprocess.run([TOOLS / "star2nodes", *arguments], input=source, capture_output=True)
+
     def test_source_to_text(self):
-        nodes = subprocess.run([TOOLS / "star2nodes", "/dev/stdin"], input=b"f = lambda x: x", stdout=subprocess.PIPE)
+        nodes = self.run_star2nodes("/dev/stdin", source=b"f = lambda x: x")
         text = subprocess.run([TOOLS / "nodes2text", "/dev/stdin"], input=nodes.stdout, stdout=subprocess.PIPE)
         self.assertEqual(
             text.stdout.decode().splitlines(),
@@ -111,10 +173,21 @@ class Programs(unittest.TestCase):
              "    4        Name x", "    5      Ident x"],
         )
 
+    def test_the_sample_is_converted_as_it_stands(self):
+        run = self.run_star2nodes(SAMPLES / "offsets.star", "--globals", SAMPLES / "globals.txt")
+        self.assertEqual(run.stdout, (SAMPLES / "offsets.nodes").read_bytes())
+
     def test_a_refusal_writes_nothing(self):
-        run = subprocess.run([TOOLS / "star2nodes", "/dev/stdin"], input=b"import x", capture_output=True)
-        self.assertEqual((run.returncode, run.stdout), (1, b""))
-        self.assertEqual(run.stderr, b"/dev/stdin:1:1: import is not Starlark\n")
+        with tempfile.TemporaryDirectory() as folder:
+            output = Path(folder, "x.nodes")
+            run = self.run_star2nodes("/dev/stdin", "-o", output, source=b"import x")
+            self.assertEqual((run.returncode, run.stdout, output.exists()), (1, b"", False))
+            self.assertEqual(run.stderr, b"/dev/stdin:1:1: import is not Starlark\n")
+
+    def test_what_cannot_be_read_or_written(self):
+        for arguments in (["/nowhere.star"], ["/dev/stdin", "--globals", "/nowhere"], ["/dev/stdin", "-o", "/nowhere/x"], []):
+            with self.subTest(arguments):
+                self.assertEqual(self.run_star2nodes(*arguments).returncode, 2)
 
 
 if __name__ == "__main__":
