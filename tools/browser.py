@@ -39,7 +39,7 @@ class Browser:
             os.dup2(writing, 4)
 
         self.process = subprocess.Popen(
-            [installed(), "--headless", "--no-sandbox", "--remote-debugging-pipe", "--disable-gpu",
+            [installed(), "--headless", "--no-sandbox", "--remote-debugging-pipe", "--disable-gpu", "--hide-scrollbars",
              "--disable-background-networking", "--no-first-run", f"--user-data-dir={self.profile.name}", "about:blank"],
             preexec_fn=move, close_fds=False, stdin=subprocess.DEVNULL, stdout=subprocess.DEVNULL, stderr=subprocess.DEVNULL)
         for each in (to_browser, from_browser, reading, writing):

@@ -31,7 +31,7 @@ function draw(stops) {
   for (let i = 1; i < boxes.length; i++) {
     const [from, to] = [boxes[i - 1], boxes[i]];
     const up = from.top >= to.top, level = Math.abs(from.top - to.top) < 4;
-    const [x, u] = [from, to].map(box => box.left + box.width / 2 - corner.left + code.scrollLeft);
+    const [x, u] = [from, to].map(box => box.left + box.width * (level ? .5 : .8) - corner.left + code.scrollLeft);
     const y = (up ? from.top : from.bottom) - corner.top;
     const v = (up && !level ? to.bottom : to.top) - corner.top;
     const bend = level ? -16 : (v - y) / 2;
