@@ -10,6 +10,8 @@ import tempfile
 import threading
 
 COMMANDS = ("chromium", "chromium-browser", "google-chrome")
+FLAGS = ("--headless", "--no-sandbox", "--remote-debugging-pipe", "--disable-gpu", "--hide-scrollbars",
+         "--disable-background-networking", "--no-first-run")
 PATIENCE = 120  # seconds, then the browser is ended
 
 
@@ -39,9 +41,9 @@ class Browser:
             os.dup2(writing, 4)
 
         self.process = subprocess.Popen(
-            [installed(), "--headless", "--no-sandbox", "--remote-debugging-pipe", "--disable-gpu", "--hide-scrollbars",
-             "--disable-background-networking", "--no-first-run", f"--user-data-dir={self.profile.name}", "about:blank"],
-            preexec_fn=move, close_fds=False, stdin=subprocess.DEVNULL, stdout=subprocess.DEVNULL, stderr=subprocess.DEVNULL)
+            [installed(), *FLAGS, f"--user-data-dir={self.profile.name}", "about:blank"],
+            preexec_fn=move, close_fds=False,
+            stdin=subprocess.DEVNULL, stdout=subprocess.DEVNULL, stderr=subprocess.DEVNULL)
         for each in (to_browser, from_browser, reading, writing):
             os.close(each)
         self.watchdog = threading.Timer(PATIENCE, self.process.kill)

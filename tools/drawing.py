@@ -13,6 +13,7 @@ TOP = Path(__file__).resolve().parent.parent
 sys.path.append(str(TOP / "tests"))
 
 import mirror  # noqa: E402
+from second_judge import judge  # noqa: E402, F401
 
 
 def drawn(source, globals=(), entries=()):

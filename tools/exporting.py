@@ -77,9 +77,10 @@ class Names:
         if spelled not in self.numbers:
             self.numbers[spelled] = len(self.numbers)
             self.pool += len(spelled)
-            for amount, limit, what in ((len(self.numbers), MAX_NAMES, "names"), (self.pool, MAX_POOL, "bytes of names")):
-                if amount > limit:
-                    raise row.refused(0, f"more than {limit} {what}, the script's own included")
+            if len(self.numbers) > MAX_NAMES:
+                raise row.refused(0, f"more than {MAX_NAMES} names, the script's own included")
+            if self.pool > MAX_POOL:
+                raise row.refused(0, f"more than {MAX_POOL} bytes of names, the script's own included")
         return self.numbers[spelled]
 
 

@@ -88,10 +88,18 @@ class Page(unittest.TestCase):
         self.assertIn("Bound at12:5, 16:9Read at17:12", self.card(b"events", 0))
         self.assertIn("global 0Read at20:12", self.card(b"sorted", 0))
 
+    def test_names_of_the_module_list(self):
+        script = drawn(b"x = y", entries=[(b"y", True, 0), (b"x", False, 0)])
+        page = Parsed(page_of(script, "x"))
+        for name, row in ((b"x", "#row-b1"), (b"y", "#row-b0")):
+            self.assertEqual(page.attributes[node(script, name, 0)]["href"], row)
+        self.assertIn("in the module's list", page.texts["card-b0"])
+
     def test_errors_stand_out(self):
         script = drawn(b"def f(t):\n  x: t = y\n")
         page = Parsed(page_of(script, "x"))
-        wrong = [attributes["id"] for tag, attributes in page.tags if tag == "a" and "error" in attributes.get("class", "")]
+        wrong = [attributes["id"] for tag, attributes in page.tags
+                 if tag == "a" and attributes.get("class") == "name error"]
         self.assertEqual([page.texts[name] for name in wrong], ["t!local in a type", "y!not found"])
         self.assertEqual(page.texts["error8"], "2:10 y: not found")
 
@@ -144,7 +152,8 @@ class InBrowser(unittest.TestCase):
 
     def shown(self, browser):
         """The texts of the cards that can be seen."""
-        return browser.value("[...document.querySelectorAll('.card')].filter(c => c.offsetHeight).map(c => c.innerText)")
+        return browser.value("[...document.querySelectorAll('.card')].filter(c => c.offsetHeight)"
+                             ".map(c => c.innerText)")
 
     def marked(self, browser, kind):
         return browser.value(f"[...document.querySelectorAll('#code .{kind}')].map(found => found.id)")

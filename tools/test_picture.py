@@ -72,8 +72,8 @@ class Text(unittest.TestCase):
 
     def test_no_line_is_too_long(self):
         name = b"n" * 120
-        script = drawn(b"x = [" + b", ".join([b"x"] * 60) + b"]\ndef " + name + b"(" + name + b"): return lambda: " + name
-                       + "\n# 漢字 ".encode() * 40)
+        script = drawn(b"x = [" + b", ".join([b"x"] * 60) + b"]\n# " + "漢字".encode() * 40
+                       + b"\ndef %b(%b): return lambda: %b" % (name, name, name))
         for line in picture(script).splitlines():
             self.assertLessEqual(len(line), WIDTH)
 
@@ -117,8 +117,9 @@ I 8 G 0 -
 """
         Resolved(file, read_listing(fitting.encode()))
         for old, new in (
-            ("answer 0", "answered 0"), ("copies 1", "copies 2"), ("C 2", "C 9"), ("C 2 0", "C 2 7"), ("C 2 0 0", "C 2 0 1"),
-            ("I 7 L 0 1\n", ""), ("I 7 L 0 1", "I 7 L 0 0"), ("I 7 L 0 1", "I 7 M 0 1"), ("I 8 G 0", "I 8 G 1"),
+            ("answer 0", "answered 0"), ("copies 1", "copies 2"), ("C 2", "C 9"), ("C 2 0", "C 2 7"),
+            ("C 2 0 0", "C 2 0 1"), ("I 7 L 0 1\n", ""), ("I 7 L 0 1", "I 7 L 0 0"), ("I 7 L 0 1", "I 7 M 0 1"),
+            ("I 8 G 0", "I 8 G 1"),
             ("I 7 L 0 1", "I 7 L 0 9"), ("free 1", "free -"), ("free 1", "free 0"), ("captured 3", "captured 7"),
             ("captured 3", "captured 99"), ("S 2 0: a\n", ""), ("M 0 f public\n", "M 0 f public\nB\n"),
         ):
@@ -154,7 +155,8 @@ class Program(unittest.TestCase):
             listing.write_bytes(b"answer 12\n")
             for arguments, status, message in (
                 (["--nodes", nodes], 1, "/dev/stdin: answer 4: its length is not what the header says\n"),
-                (["--listing", listing], 1, "/dev/stdin: answer 12: all scopes together would need more than 4,096 slots\n"),
+                (["--listing", listing], 1,
+                 "/dev/stdin: answer 12: all scopes together would need more than 4,096 slots\n"),
                 (["--listing", nodes], 1, "/dev/stdin: the listing does not begin with `answer`\n"),
                 (["--scopelist", "/nowhere"], 2, "scopepicture: [Errno 2] No such file or directory: '/nowhere'\n"),
                 (["--scopelist", "false"], 2, "scopepicture: Command '['false']' returned non-zero exit status 1.\n"),

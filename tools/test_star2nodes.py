@@ -6,6 +6,7 @@ import tempfile
 import unittest
 from pathlib import Path
 
+from drawing import judge
 from exporting import UNIVERSE, exported
 from nodefile import KINDS, NAMED, SCOPED, File, Node, pack, preorder, unpack
 from starlark_source import Refused
@@ -101,7 +102,8 @@ class Conversion(unittest.TestCase):
             ("lambda: [" + "not " * 300 + "x]", "1:254: more than 64 levels of nodes"),
             ("if a: b\n" + "elif a: b\n" * 100, "63:9: more than 64 levels of nodes"),
             ("f(" + ", ".join(f"a{n}" for n in range(1025)) + ")", "1:6054: more than 1024 names"),
-            ("f(\n" + ",\n".join(f"{n:0>255}".replace("0", "x") for n in range(65)) + ")", "66:1: more than 16384 bytes of names"),
+            ("f(\n" + ",\n".join(f"{n:0>255}".replace("0", "x") for n in range(65)) + ")",
+             "66:1: more than 16384 bytes of names"),
             ("#" * (1 << 24) + "\nx", "2:1: more than 16777215 bytes before a node"),
             ("x = 1\n\0", "2:1: a zero byte is not Starlark"),
             ("x = ", "1:5: invalid syntax"),
@@ -152,12 +154,27 @@ class Lists(unittest.TestCase):
             ({"entries": b"a hidden 0"}, "entries:1:3: `public` or `private` is wanted"),
             ({"entries": b"a public 32768"}, "entries:1:10: a slot from 0 to 32767 is wanted"),
             ({"entries": "a public \u0663".encode()}, "entries:1:10: a slot from 0 to 32767 is wanted"),
-            ({"entries": b"".join(b"e%d public 0\n" % n for n in range(257))}, "entries:257:1: more than 256 module entries"),
+            ({"entries": b"".join(b"e%d public 0\n" % n for n in range(257))},
+             "entries:257:1: more than 256 module entries"),
             ({"source": b"f(" + b", ".join(b"a%d" % n for n in range(1023)) + b")", "globals": b"f\nlast"},
              "globals:2:1: more than 1024 names, the script's own included"),
         ):
             with self.subTest(message):
                 self.assertEqual(self.export(**lists), message)
+
+
+class Accepted(unittest.TestCase):
+    def test_judging_accepts_what_is_converted(self):
+        for source in (
+            "", "pass", 'load("m")', "x = " + "[" * 63 + "]" * 63, "lambda: 1\n" * 255, "a\n" * 1023,
+            "x = " + "y" * 255,
+            "def f(a, /, b: c = 1, *, d, **e) -> g: return", "lambda *a: 0", "a[b], c.d, [] = e",
+            "{a: b for a[c] in d if e for f in g}", "if a: b\nelif c: d\nelse: e", "a[b:c:d] + -e.f(*g, h = i)",
+            "f(" + ", ".join(f"a{n}" for n in range(1023)) + ")",
+        ):
+            with self.subTest(source[:40]):
+                root, names = convert(source.encode())
+                self.assertEqual(judge(pack(File(False, root, names))), 0)
 
 
 class Programs(unittest.TestCase):
@@ -185,9 +202,9 @@ class Programs(unittest.TestCase):
             self.assertEqual(run.stderr, b"/dev/stdin:1:1: import is not Starlark\n")
 
     def test_what_cannot_be_read_or_written(self):
-        for arguments in (["/nowhere.star"], ["/dev/stdin", "--globals", "/nowhere"], ["/dev/stdin", "-o", "/nowhere/x"], []):
+        for arguments in ("", "/nowhere", "/dev/stdin --globals /nowhere", "/dev/stdin -o /nowhere/x"):
             with self.subTest(arguments):
-                self.assertEqual(self.run_star2nodes(*arguments).returncode, 2)
+                self.assertEqual(self.run_star2nodes(*arguments.split()).returncode, 2)
 
 
 if __name__ == "__main__":

@@ -15,6 +15,13 @@ WHY = {
 MOST_PLACES = 40  # as many places a card lists
 
 
+def row_id(meaning):
+    """The row of the tables that shows a meaning; module entries may share slots, so theirs go by binding."""
+    if meaning.kind == LOCAL:
+        return "row-%d.%d" % meaning.chain[0]
+    return f"row-g{meaning.number}" if meaning.kind == GLOBAL else f"row-b{meaning.binding}"
+
+
 def link(target, text):
     return f'<a href="#{target}">{text}</a>'
 
@@ -43,19 +50,21 @@ class Cards:
         if key not in self.made:
             self.made[key] = self.article(f"card-{key}", meaning, group)
         copies = " ".join(f"s{scope}" for scope, _ in meaning.chain[:-1])
-        source = None if meaning.binding is None else self.resolved.bindings[meaning.binding].source
+        source = self.source(meaning)
         declared = "" if source is None else f' data-declared="n{source}"'
-        return f'data-of="{group}" data-card="card-{key}" data-copies="{copies}"{declared} aria-describedby="card-{key}"'
+        return (f'data-of="{group}" data-card="card-{key}" data-copies="{copies}"{declared} '
+                f'aria-describedby="card-{key}"')
+
+    def source(self, meaning):
+        """The Name that declares a variable, None where the script has none."""
+        return None if meaning.binding is None else self.resolved.bindings[meaning.binding].source
 
     def target(self, mark):
         """Where a click on a name leads: the declaration, or its row of a table."""
-        meaning = mark.meaning
-        if meaning.kind == ERROR:
+        if mark.meaning.kind == ERROR:
             return f"error{mark.node}"
-        source = None if meaning.binding is None else self.resolved.bindings[meaning.binding].source
-        if source is None or mark.sets:
-            return f"row-{label(meaning)}"
-        return f"n{source}"
+        source = self.source(mark.meaning)
+        return row_id(mark.meaning) if source is None or mark.sets else f"n{source}"
 
     def articles(self):
         return self.made.values()
@@ -91,7 +100,7 @@ class Cards:
         _, name = self.resolved.variable(number)
         others = [self.resolved.own(other) for (_, spelled), other in self.resolved.bound.items()
                   if spelled == name and other != number]
-        links = ", ".join(link(f"row-{label(own)}", label(own)) for own in others[:MOST_PLACES])
+        links = ", ".join(link(row_id(own), label(own)) for own in others[:MOST_PLACES])
         return f"<dt>Not</dt><dd>{links}: the same name, another variable</dd>" if others else ""
 
     def declaration(self, binding):

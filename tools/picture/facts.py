@@ -75,7 +75,8 @@ def scope_title(script, number):
         return "scope 0, the module: only comprehensions have slots here"
     scope = script.resolved.tree.scopes[number]
     kind = "lambda" if scope.name is None else f"def {shown(scope.name)}"
-    return f"scope {number}, {kind} at {at(script, scope.offset)}" + f", inside scope {scope.parent}" * (scope.parent > 0)
+    inside = f", inside scope {scope.parent}" if scope.parent else ""
+    return f"scope {number}, {kind} at {at(script, scope.offset)}{inside}"
 
 
 def errors(script):

@@ -5,7 +5,7 @@ from dataclasses import dataclass
 from html import escape
 from pathlib import Path
 
-from .cards import Cards, link
+from .cards import Cards, link, row_id
 from .facts import HEADINGS, at, cells, errors, module_rows, scope_rows, scope_title
 from .meaning import ERROR, GLOBAL, LOCAL, MODULE, Mark, Meaning
 from .script import label, shown, width
@@ -14,7 +14,8 @@ HERE = Path(__file__).parent
 HEAD = """<!doctype html>
 <html lang="en">
 <meta charset="utf-8">
-<meta http-equiv="Content-Security-Policy" content="default-src 'none'; style-src 'unsafe-inline'; script-src 'unsafe-inline'">
+<meta http-equiv="Content-Security-Policy"
+  content="default-src 'none'; style-src 'unsafe-inline'; script-src 'unsafe-inline'">
 <meta name="viewport" content="width=device-width, initial-scale=1">"""
 LABEL_SIZE = 0.78  # of a label's letters, as in page.css
 LEGEND = (
@@ -148,4 +149,5 @@ def slot_row(script, cards, row, meaning):
     place = "" if row.declared is None else link(f"n{script.resolved.bindings[row.binding].source}", place)
     rest = "".join(f"<td>{cell}</td>" for cell in (what, *flags, place))
     copied = ' class="copied"' * meaning.copied
-    return f'<tr id="row-{slot}"{copied} {cards.attributes(meaning)}><td>{slot}</td><td><code>{name}</code></td>{rest}</tr>'
+    return (f'<tr id="{row_id(meaning)}"{copied} {cards.attributes(meaning)}><td>{slot}</td>'
+            f"<td><code>{name}</code></td>{rest}</tr>")

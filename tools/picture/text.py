@@ -78,9 +78,9 @@ def rows_of(part):
 def tables(script):
     """What each module slot, each slot of each scope and each global is; then the errors."""
     yield from table("module", [cells(script, row) for row in module_rows(script)], HEADINGS)
-    for scope, slots in script.resolved.slots.items():
-        if slots:
-            yield from table(scope_title(script, scope), [cells(script, row) for row in scope_rows(script, scope)], HEADINGS)
+    for scope in script.resolved.slots:
+        rows = [cells(script, row) for row in scope_rows(script, scope)]
+        yield from table(scope_title(script, scope), rows, HEADINGS)
     yield from table("globals", [(f"g{number}", shown(script.resolved.file.names[name]))
                                  for number, name in enumerate(script.resolved.file.globals)])
     yield from table("errors", [(at(script, mark.offset), shown(mark.name), what) for mark, what in errors(script)])
