@@ -13,7 +13,10 @@ TOP = Path(__file__).resolve().parent.parent
 sys.path.append(str(TOP / "tests"))
 
 import mirror  # noqa: E402
+from generate import FILES  # noqa: E402
 from second_judge import judge  # noqa: E402, F401
+
+accepted = FILES["accepted"]
 
 
 def drawn(source, globals=(), entries=()):

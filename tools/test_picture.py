@@ -5,8 +5,8 @@ import tempfile
 import unittest
 from pathlib import Path
 
-from drawing import TOP, drawn, drawn_file, marks, sample
-from nodefile import ASSIGN, IDENT, NAME, File, Node, pack
+from drawing import TOP, accepted, drawn, drawn_file, marks, mirror, sample
+from nodefile import ASSIGN, IDENT, NAME, File, Node, pack, unpack
 from picture.listing import REFUSALS, NotResolved, Unfit, read_listing
 from picture.meaning import Resolved
 from picture.script import Script, shown
@@ -57,6 +57,28 @@ class Marks(unittest.TestCase):
         script = drawn(b"def f(a): return lambda: lambda: lambda: a")
         self.assertEqual(marks(script)[-1], "a 4.0<..<1.0")
         self.assertEqual(script.resolved.marks[-1].meaning.chain, ((4, 0), (3, 0), (2, 0), (1, 0)))
+
+
+class Generated(unittest.TestCase):
+    """What the listing leaves out, a Name's binding and a slot's name, against the full listing."""
+
+    def test_names_and_slots(self):
+        for data in accepted(300, 7):
+            resolved = Resolved(unpack(data), read_listing(mirror.answer(data)))
+            lines = mirror.answer(data, full=True).split(b"\n")
+            names = [line.split() for line in lines if line.startswith(b"N")]
+            self.assertEqual([(mark.node, mark.meaning.binding) for mark in in_node_order(resolved) if mark.sets],
+                             [(int(node), int(binding)) for _, node, _, _, binding in names])
+            slots = {scope: [] for scope in resolved.slots}
+            for _, scope, name in (line.split(b" ", 2) for line in lines if line.startswith(b"T")):
+                slots[int(scope)].append(name)
+            for scope, filled in resolved.slots.items():
+                found = [resolved.file.names[resolved.variable(filled[slot])[1]] for slot in range(len(filled))]
+                self.assertEqual(found, slots[scope])
+
+
+def in_node_order(resolved):
+    return sorted(resolved.marks, key=lambda mark: mark.node)
 
 
 class Text(unittest.TestCase):
