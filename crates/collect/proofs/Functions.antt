@@ -1,10 +1,9 @@
 -- The steps of `collect_defines_in_def`: a function's parameter variables are counted, its block is collected, and its stretch of the bindings kept.
 use Prim.Native.Nat.{ℕ, _+_, _*_, _%_, _<_, _≤_}
-use mathlib.Core.Path.{_≡_, refl, sym, ap, _∙_, subst}
+use mathlib.Core.Path.{_≡_, refl, sym, ap, _∙_}
 use mathlib.Core.Bool.{true, false, true≢false}
 use mathlib.Core.List.{List, [], _∷_, _++_}
 use native.Mathlib.Omega.{arith}
-use lib.Dec.{eqb}
 use lib.ListN.{length, getD, set, length-set}
 use Rattle.lexical.specs.Lists.{first, first-here, first-other, eqb-self, eqb-not}
 use Rattle.lexical.specs.Tree.{Forest, params}
@@ -17,12 +16,13 @@ use Rattle.lexical.specs.Second.{declareFn}
 use Rattle.nodefile.specs.Reads.{Reads}
 use Rattle.store.specs.declared.ids.State.{State}
 use Rattle.store.specs.declared.ids.Marks.{Marks}
-use Rattle.store.specs.Sections.{Mem, mem, Long}
-use Rattle.store.specs.Rel.{World, Rel, R, caps}
+use Rattle.store.specs.Sections.{Mem, mem}
+use Rattle.store.specs.Rel.{World, R}
 use Rattle.target.specs.Target.{marksOf}
+use Rattle.collect.specs.Shared.{was-full}
 use Rattle.collect.specs.Cycle.{Ghost, Pre, Done}
 use Rattle.collect.specs.Declare.{plainMarks, keyed, counted, worldOf, Unmet, Function, PreFunction, FunctionDone}
-use Rattle.collect.proofs.Entered.{was-full, full-block, blockOf, block-ghost, block-done, block-new}
+use Rattle.collect.proofs.Entered.{full-block, blockOf, block-ghost, block-done, block-new}
 use Rattle.collect.proofs.Stored.{rel-params, rel-range}
 
 -- ---- one scope more in the tables

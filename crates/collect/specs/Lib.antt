@@ -1,3 +1,4 @@
+pub mod Parts
+pub mod Shared
 pub mod Cycle
 pub mod Declare
-pub mod Parts
