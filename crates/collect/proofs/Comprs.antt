@@ -18,7 +18,8 @@ use Rattle.store.specs.Rel.{R, caps}
 use Rattle.store.specs.Scoping.{Opening, Opened}
 use Rattle.store.specs.Laws.Around.{saved-few}
 use Rattle.target.specs.Target.{marksOf}
-use Rattle.collect.specs.Shared.{was-full, top-scope}
+use Rattle.store.specs.Laws.Full.{was-full}
+use Rattle.store.specs.Laws.Around.{env-top}
 use Rattle.collect.specs.Cycle.{Ghost, Pre, Done}
 use Rattle.collect.specs.Declare.{plainMarks, Compr, PreCompr, ComprDone}
 use Rattle.collect.proofs.Entered.{full-block, blockOf, block-ghost, block-done, block-new}
@@ -45,7 +46,7 @@ module _ {part : List ℕ} {at : ℕ} {s : State} {m : Mem} (p : PreCompr part a
 
     module _ (n : ℕ) (e : n ≡ getD (m .t) (20736 + s .level) 0) where
       v-scope : (g : Compr part at s m) → (n ≡ top (g .ss)) × (top (g .ss) < 256)
-      v-scope g = let q = top-scope (g .rel .rel free .around) in (e ∙ q .0, q .1)
+      v-scope g = let q = env-top (g .rel .rel free .around) in (e ∙ q .0, q .1)
 
       abbrev v-ghost : Compr part at s m → Ghost part at (blockOf n (s .bindings)) s m
       v-ghost g = block-ghost n (top (g .ss)) (v-scope g .0) (v-scope g .1) free (g .rel) (g .f) (g .reads) (g .valid)

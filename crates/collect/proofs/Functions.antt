@@ -10,18 +10,17 @@ use Rattle.lexical.specs.Tree.{Forest, params}
 use Rattle.lexical.specs.Binders.{Target, collect, unmarked}
 use Rattle.lexical.specs.State.{Binding, Row, St}
 use Rattle.lexical.specs.Block.{block}
-use Rattle.lexical.specs.Second.{rows, rowNames}
+use Rattle.lexical.specs.Second.{declareFn, keyed, rows, rowNames}
 use Rattle.lexical.specs.Records.{paramsOf}
-use Rattle.lexical.specs.Second.{declareFn}
 use Rattle.nodefile.specs.Reads.{Reads}
 use Rattle.store.specs.declared.ids.State.{State}
 use Rattle.store.specs.declared.ids.Marks.{Marks}
 use Rattle.store.specs.Sections.{Mem, mem}
 use Rattle.store.specs.Rel.{World, R}
 use Rattle.target.specs.Target.{marksOf}
-use Rattle.collect.specs.Shared.{was-full}
+use Rattle.store.specs.Laws.Full.{was-full}
 use Rattle.collect.specs.Cycle.{Ghost, Pre, Done}
-use Rattle.collect.specs.Declare.{plainMarks, keyed, counted, worldOf, Unmet, Function, PreFunction, FunctionDone}
+use Rattle.collect.specs.Declare.{plainMarks, counted, worldOf, Unmet, Function, PreFunction, FunctionDone}
 use Rattle.collect.proofs.Entered.{full-block, blockOf, block-ghost, block-done, block-new}
 use Rattle.collect.proofs.Stored.{rel-params, rel-range}
 
@@ -37,11 +36,11 @@ module _ (k : ℕ) (tbl : List Row) (ps : List (ℕ × ℕ)) where
   params-others n u h = ap paramsOf (first-other (counted u) ps (k, n) (eqb-not k u (λ e. h (sym e))))
 
   pub rows-here : (bs : List Binding) → Unmet k tbl ps → rows (tbl ++ (record { scope = k; names = bs } ∷ [])) k ≡ bs
-  unfolding rows rowNames keyed
+  unfolding rows rowNames
   rows-here bs u = ap rowNames (first-here (keyed k) tbl (record { scope = k; names = bs }) (u .row) (eqb-self k))
 
   pub rows-others : (bs : List Binding) (u : ℕ) → (u ≡ k → ⊥) → rows (tbl ++ (record { scope = k; names = bs } ∷ [])) u ≡ rows tbl u
-  unfolding rows keyed
+  unfolding rows
   rows-others bs u h = ap rowNames (first-other (keyed u) tbl (record { scope = k; names = bs }) (eqb-not k u (λ e. h (sym e))))
 
 -- no mark

@@ -14,19 +14,19 @@ use Rattle.lexical.specs.Tree.{Forest, nil, node, Way, way, isFn, when, listed,
 use Rattle.lexical.specs.Binders.{Target, targets}
 use Rattle.lexical.specs.Module.{File}
 use Rattle.lexical.specs.State.{Row, St}
-use Rattle.lexical.specs.Second.{declareFn, declareHere, declare, second}
+use Rattle.lexical.specs.Second.{declareFn, declareHere, declare, keyed, second}
 use Rattle.store.specs.declared.ids.State.{State}
 use Rattle.store.specs.Sections.{Mem}
 use Rattle.store.specs.Rel.{R}
 use Rattle.store.specs.Valid.{NodeOk, Valid}
-use Rattle.collect.specs.Declare.{ownParams, keyed, counted, worldOf, Unmet, Here, HereDone}
+use Rattle.collect.specs.Declare.{ownParams, counted, worldOf, Unmet, Here, HereDone}
 use Rattle.collect.proofs.Ordered.{ownScope, Stand, declareAll, paramsAll, scopesAll, ValidAll, stand-more, first-size, first-kind, first-value, first-inside, first-under}
 
 -- ---- another scope has no row either, after a node
 
 unmet-more : (w : Way) (v : ℕ) (kids : Forest) (ts : List Target) (tbl : List Row) (st : St) (ps : List (ℕ × ℕ)) (u : ℕ) → (In u (ownScope w v) → ⊥)
     → Unmet u tbl ps → Unmet u (declareHere w v ts (tbl, st) .0) (ps ++ ownParams w v kids)
-unfolding declareHere declareFn when keyed counted
+unfolding declareHere declareFn when counted
 unmet-more w v kids ts tbl st ps u h q = go (isFn w) h
   where
     go : (b : Bool) → (In u (when b v) → ⊥) → Unmet u (cond b (declareFn v ts (tbl, st)) (tbl, st) .0) (ps ++ when b (v, params kids))

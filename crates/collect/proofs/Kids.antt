@@ -14,7 +14,7 @@ use Rattle.store.specs.Blocks.{RB}
 use Rattle.target.specs.Target.{marksOf}
 use Rattle.collect.proofs.Collecting.{collecting}
 use Rattle.collect.specs.Parts.{Left, Sibling, left-start, left-end, left-sibling, left-one, left-fine, left-reads, left-more, sibling-length, sibling-size}
-use Rattle.collect.specs.Shared.{Kept, long-kept}
+use Rattle.store.specs.Laws.Lengths.{Kept, long-kept}
 use Rattle.collect.specs.Cycle.{Ghost, Pre, Pre1, Done}
 
 abbrev Rest : (part : List ℕ) (at : ℕ) (b : Block) (marks : Marks) (s₀ : State) (m₀ : Mem) (s : State) (n i : ℕ) (m : Mem) → Ghost part at b s₀ m₀ → Type 0

@@ -13,7 +13,7 @@ use Rattle.lexical.specs.Second.{second}
 use Rattle.store.specs.declared.ids.State.{State}
 use Rattle.store.specs.Sections.{Mem, Long}
 use Rattle.store.specs.Rel.{R}
-use Rattle.collect.specs.Shared.{Kept, long-kept}
+use Rattle.store.specs.Laws.Lengths.{Kept, long-kept}
 use Rattle.collect.specs.Declare.{worldOf, PreHere, HereDone, AllNodes, PreAll, AllDone}
 use Rattle.collect.proofs.Ordered.{stand-one, stand-end}
 use Rattle.collect.proofs.Going.{Going, Next, next, n-here, n-more}

@@ -1,4 +1,3 @@
 pub mod Parts
-pub mod Shared
 pub mod Cycle
 pub mod Declare

@@ -14,12 +14,13 @@ use Rattle.nodefile.specs.Reads.{Reads}
 use Rattle.store.specs.declared.ids.State.{State}
 use Rattle.store.specs.Sections.{Mem, Long}
 use Rattle.store.specs.Rel.{R}
+use Rattle.store.specs.Laws.Lengths.{Kept, long-kept}
 use Rattle.store.specs.Valid.{Some}
 use Rattle.collect.specs.Parts.{alone, Split, split, some-long}
 use Rattle.idents.specs.Cycle.{Ghost, Pre, Pre1, PreKind, Done, LastAt}
 use Rattle.idents.proofs.Fine.{Fine, fine-apart}
 use Rattle.idents.proofs.Resolving.{clause-node}
-use Rattle.idents.proofs.Steps.{passed-on, whole-node, Kept, long-kept, x-long, x-one, x-right, x-kids-length, x-kids-fine}
+use Rattle.idents.proofs.Steps.{passed-on, whole-node, x-long, x-one, x-right, x-kids-length, x-kids-fine}
 
 abbrev pub front : List ℕ → ℕ → List ℕ
 front t b = take (b - 0) (drop 0 t)
@@ -125,7 +126,7 @@ module _ {part : List ℕ} {at : ℕ} {s : State} {m : Mem} (p : Pre1 part at s 
 
     module _ {ty : Bool} {s₁ : State} {m₁ : Mem} (x : Done (back kids-of b) (at + 1 + b / 8) ty s m s₁ m₁) where
       pub c-first-pre : Kept m m₁ → Pre1 (front kids-of b) (at + 1) s₁ m₁
-      c-first-pre k = f-first-pre _ (x .right (c-rest-ghost (p .pre .ghost))) (long-kept k (p .pre .long))
+      c-first-pre k = f-first-pre _ (x .right (c-rest-ghost (p .pre .ghost))) (long-kept (p .pre .long) k)
 
       pub c-done : {r : State} {m′ : Mem} → kindOf part ≡ 15 → Done (front kids-of b) (at + 1) ty s₁ m₁ r m′ → Done part at ty s m r m′
       c-done e y = record {

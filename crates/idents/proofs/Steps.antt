@@ -14,6 +14,7 @@ use Rattle.nodefile.specs.Reads.{Reads}
 use Rattle.store.specs.declared.ids.State.{State}
 use Rattle.store.specs.Sections.{Mem, Long}
 use Rattle.store.specs.Rel.{R}
+use Rattle.store.specs.Laws.Lengths.{Kept, long-kept}
 use Rattle.lookup.specs.Lookup.{Ident, IdentDone}
 use Rattle.collect.specs.Parts.{alone, One, one, kids-length, Walk, Left, Sibling, left-start, left-end, left-sibling, left-one, left-fine, left-reads, left-more, sibling-length, sibling-size}
 use Rattle.idents.specs.Cycle.{Ghost, Pre, Pre1, PreKind, Done, DoneAny, resolvedAt}
@@ -52,15 +53,6 @@ module _ {part : List ℕ} {at : ℕ} {s : State} {m : Mem} (g : Ghost part at s
 -- a part that holds one node is as long as that node says
 pub whole-node : (t : List ℕ) (at a k v : ℕ) (kids : Forest) → Reads t at (node a k v kids nil) → (0 < sizeOf t) × (8 * sizeOf t ≡ length t)
 whole-node t at a k v kids r = (r .some, omega (arith, r .inside, ap length (r .after), length-drop (8 * sizeOf t) t))
-
--- the lists keep their lengths
-pub record Kept (m m′ : Mem) : Type 0 where
-  pub binds : length (m′ .binds) ≡ length (m .binds)
-  pub w : length (m′ .w) ≡ length (m .w)
-  pub t : length (m′ .t) ≡ length (m .t)
-
-pub long-kept : {m m′ : Mem} → Kept m m′ → Long m → Long m′
-long-kept k l = record { binds = omega (arith, k .binds, l .binds); w = k .w ∙ l .w; t = k .t ∙ l .t }
 
 -- ---- each: between one node and the next
 
@@ -114,7 +106,7 @@ module _ {part : List ℕ} {at : ℕ} {ty : Bool} {s₀ : State} {m₀ : Mem} {s
 
       pub k-more : {r : State} {m′ : Mem} → Ghost part at s₀ m₀ → Done (take (i + 8 * k - i) (drop i part)) n ty s m r m′ → Kept m m′ → Mid part at ty s₀ m₀ r (n + k) (i + 8 * k) m′
       k-more {r} {m′} g₀ x c = record {
-        long = long-kept c (d .long);
+        long = long-kept (d .long) c;
         kept = c .binds ∙ d .kept;
         number = omega (arith, d .number);
         le = omega (arith, k-node g₀ .inside);
