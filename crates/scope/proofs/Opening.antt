@@ -35,13 +35,6 @@ use Rattle.target.specs.Entries.{unsettled, module-opens}
 use Rattle.collect.specs.Declare.{counted}
 use Rattle.note.specs.Noted.{Noted}
 
--- the slots of the file's entries fit their field
-pub entry-slots : (bs : List ℕ) (root : Forest) (i : ℕ) (e : Entry) → getElem? (fileOf bs root .entries) i ≡ some e → e .slot < 32768
-entry-slots bs root i e q =
-    let h : i < entryCount bs = omega (arith, at-below (fileOf bs root .entries) i e q, entries-count bs root) in
-    let z : entryOf (entriesOf bs) i ≡ e = let y : some (entryOf (entriesOf bs) i) ≡ some e = sym (entries-at bs root i h) ∙ q in cc in
-    subst (λ (x : Entry). x .slot < 32768) z (field-lt (entriesOf bs) (32 * i + 17) 15)
-
 -- the state before the first target
 abbrev pub opening : ℕ → State
 opening entries = record { bindings = entries; slots = 0; copies = 0; errors = 0; level = 0; full = false }

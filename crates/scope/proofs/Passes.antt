@@ -41,7 +41,8 @@ use Rattle.scope.specs.Ready.{Ready}
 use Rattle.scope.specs.Walks.{Ended, Begun, PreNodes, NodesDone}
 use Rattle.scope.specs.Laws.Readies.{ready-scoped, ready-length}
 use Rattle.scope.proofs.Owners.{second-owners}
-use Rattle.scope.proofs.Opening.{entry-slots, opening, noRows, noParams, module-begins}
+use Rattle.scope.specs.Laws.Bounds.{entry-slots}
+use Rattle.scope.proofs.Opening.{opening, noRows, noParams, module-begins}
 
 module-is : (F : File) → BlockIs (moduleBlock F) moduleIs
 unfolding moduleBlock

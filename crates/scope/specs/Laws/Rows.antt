@@ -1,6 +1,5 @@
 -- A node's answer: no node has two rows among the Names' and the Idents' together, so that its place in the buffer holds the one it has.
---     rows-once                node by node
---     answer-at, answer-none   the place of a node that has a row, and of one that has none
+--     answer-at, answer-none, error-none   the place of a node that has a row, of one that has none, of one that has an error
 use Prim.Native.Nat.{ℕ, zero, suc, _+_, _≤_}
 use mathlib.Core.Path.{_≡_, refl, sym, ap, _∙_}
 use mathlib.Core.Bool.{true, false}
@@ -58,36 +57,41 @@ unfolding total
 names-times i [] = refl
 names-times i (x ∷ xs) = rw (name-node x, names-times i xs)
 
-answer-times : (i : ℕ) (bs : List Binding) (at : ℕ) (f : Found) → times i (map rowNode (rec.answerRow bs at f)) ≤ one i at
-unfolding total rec.answerRow rec.outerRow
-answer-times i bs at (local b k) = omega arith
-answer-times i bs at (refused b k) = omega arith
-answer-times i bs at (outside (module′ m)) = omega arith
-answer-times i bs at (outside (global g)) = omega arith
-answer-times i bs at (outside missing) = omega arith
+-- each lookup gives a row or an error
+event-times : (i : ℕ) (bs : List Binding) (at : ℕ) (f : Found) → times i (map rowNode (rec.answerRow bs at f)) + times i (map rowNode (rec.errorRow at f)) ≡ one i at
+unfolding total rec.answerRow rec.outerRow rec.errorRow rec.outerError
+event-times i bs at (local b k) = omega arith
+event-times i bs at (refused b k) = omega arith
+event-times i bs at (outside (module′ m)) = omega arith
+event-times i bs at (outside (global g)) = omega arith
+event-times i bs at (outside missing) = omega arith
 
-answers-times : (i : ℕ) (bs : List Binding) (es : List Event) → times i (map rowNode (rec.answers bs es)) ≤ times i (map (λ (e : Event). e .node) es)
-unfolding total rec.answers
-answers-times i bs [] = omega arith
-answers-times i bs (e ∷ es) = rw (map-append rowNode (rec.answerRow bs (e .node) (e .found)) (rec.answers bs es))
-    (omega (arith, total-append (one i) (map rowNode (rec.answerRow bs (e .node) (e .found))) (map rowNode (rec.answers bs es)), answer-times i bs (e .node) (e .found), answers-times i bs es))
+events-times : (i : ℕ) (bs : List Binding) (es : List Event) → times i (map rowNode (rec.answers bs es)) + times i (map rowNode (rec.errors es)) ≡ times i (map (λ (e : Event). e .node) es)
+unfolding total rec.answers rec.errors
+events-times i bs [] = refl
+events-times i bs (e ∷ es) = rw (map-append rowNode (rec.answerRow bs (e .node) (e .found)) (rec.answers bs es), map-append rowNode (rec.errorRow (e .node) (e .found)) (rec.errors es))
+    (omega (arith, total-append (one i) (map rowNode (rec.answerRow bs (e .node) (e .found))) (map rowNode (rec.answers bs es)), total-append (one i) (map rowNode (rec.errorRow (e .node) (e .found))) (map rowNode (rec.errors es)), event-times i bs (e .node) (e .found), events-times i bs es))
 
 abbrev pub rowsOf : File → List (List ℕ)
 rowsOf F = rec.records F .names ++ rec.records F .answers
 
-module _ (F : File) (ok : Scoped F) (h : Headed (F .root)) (d : Distinct (nodesIn (F .root))) where
-  pub rows-once : (i : ℕ) → times i (map rowNode (rowsOf F)) ≤ 1
-  unfolding rec.records
-  rows-once i =
-      let names = map rec.titleRow (resolved F .named) in
-      let answers = rec.answers (resolved F .made) (resolved F .log) in
-      rw (map-append rowNode names answers)
-      (omega (arith, total-append (one i) (map rowNode names) (map rowNode answers), names-times i (resolved F .named), answers-times i (resolved F .made) (resolved F .log), node-once F ok h d i))
-
-  pub answer-at : (j : ℕ) (row : List ℕ) → getElem? (rowsOf F) j ≡ some row → nodeAnswer F (rowNode row) ≡ answerOf (some row)
-  unfolding nodeAnswer ofNode
-  answer-at j row e = ap answerOf (first-once rowNode (rowNode row) (rowsOf F) (rows-once (rowNode row)) j row e refl)
-
 pub answer-none : (F : File) (i : ℕ) → ((j : ℕ) (row : List ℕ) → getElem? (rowsOf F) j ≡ some row → rowNode row ≡ i → ⊥) → nodeAnswer F i ≡ 0
 unfolding nodeAnswer ofNode answerOf
 answer-none F i h = rw (first-no (ofNode i) (rowsOf F) (λ j row e t. h j row e (eqb-true (rowNode row) i t))) refl
+
+module _ (F : File) (ok : Scoped F) (h : Headed (F .root)) (d : Distinct (nodesIn (F .root))) where
+  rows-errors : (i : ℕ) → times i (map rowNode (rowsOf F)) + times i (map rowNode (rec.records F .errors)) ≤ 1
+  unfolding rec.records
+  rows-errors i =
+      let names = map rec.titleRow (resolved F .named) in
+      let answers = rec.answers (resolved F .made) (resolved F .log) in
+      rw (map-append rowNode names answers)
+      (omega (arith, total-append (one i) (map rowNode names) (map rowNode answers), names-times i (resolved F .named), events-times i (resolved F .made) (resolved F .log), node-once F ok h d i))
+
+  pub answer-at : (j : ℕ) (row : List ℕ) → getElem? (rowsOf F) j ≡ some row → nodeAnswer F (rowNode row) ≡ answerOf (some row)
+  unfolding nodeAnswer ofNode
+  answer-at j row e = ap answerOf (first-once rowNode (rowNode row) (rowsOf F) (omega (arith, rows-errors (rowNode row))) j row e refl)
+
+  -- a node with an error has no answer
+  pub error-none : (j : ℕ) (row : List ℕ) → getElem? (rec.records F .errors) j ≡ some row → nodeAnswer F (rowNode row) ≡ 0
+  error-none j row e = answer-none F (rowNode row) (λ k r a n. omega (arith, rows-errors (rowNode row), times-at rowNode (rowNode row) (rec.records F .errors) j row e refl, times-at rowNode (rowNode row) (rowsOf F) k r a n))

@@ -102,13 +102,15 @@ resolves-one {bs} {b} {b₁} {b₂} {a} {c} r s = elim (ℕ-discrete (a .number)
     accepted z =
         let (root, t) = a-tree r z in
         let x = r .given z root t in
-        let y = s .given (sym number ∙ z) root t in
-        (answer-same number (x .bindings ∙ sym (y .bindings)) (x .module-entries ∙ sym (y .module-entries)) (x .slots ∙ sym (y .slots)) (x .copies ∙ sym (y .copies)) (x .errors ∙ sym (y .errors)),
-        buffers-same (x .nodes-hold ∙ sym (y .nodes-hold)) (x .bindings-hold ∙ sym (y .bindings-hold)) (x .entries-hold ∙ sym (y .entries-hold)) (x .scopes-hold ∙ sym (y .scopes-hold)) (x .slots-hold ∙ sym (y .slots-hold)) (x .copies-hold ∙ sym (y .copies-hold)) (x .errors-hold ∙ sym (y .errors-hold)))
+        let y = s .given (sym number ∙ z) root t in (
+          answer-same number (x .bindings ∙ sym (y .bindings)) (x .module-entries ∙ sym (y .module-entries)) (x .slots ∙ sym (y .slots)) (x .copies ∙ sym (y .copies)) (x .errors ∙ sym (y .errors)),
+          buffers-same (x .nodes-hold ∙ sym (y .nodes-hold)) (x .bindings-hold ∙ sym (y .bindings-hold)) (x .entries-hold ∙ sym (y .entries-hold)) (x .scopes-hold ∙ sym (y .scopes-hold)) (x .slots-hold ∙ sym (y .slots-hold)) (x .copies-hold ∙ sym (y .copies-hold)) (x .errors-hold ∙ sym (y .errors-hold)),
+        )
 
     refused : (a .number ≡ 0 → ⊥) → (a ≡ c) × (b₁ ≡ b₂)
     refused z =
         let x = r .refused z in
-        let y = s .refused (λ e. z (number ∙ e)) in
-        (answer-same number (x .bindings ∙ sym (y .bindings)) (x .module-entries ∙ sym (y .module-entries)) (x .slots ∙ sym (y .slots)) (x .copies ∙ sym (y .copies)) (x .errors ∙ sym (y .errors)),
-        buffers-same (x .zeroed .nodes ∙ sym (y .zeroed .nodes)) (x .zeroed .bindings ∙ sym (y .zeroed .bindings)) (x .zeroed .entries ∙ sym (y .zeroed .entries)) (x .zeroed .scopes ∙ sym (y .zeroed .scopes)) (x .zeroed .slots ∙ sym (y .zeroed .slots)) (x .zeroed .copies ∙ sym (y .zeroed .copies)) (x .zeroed .errors ∙ sym (y .zeroed .errors)))
+        let y = s .refused (λ e. z (number ∙ e)) in (
+          answer-same number (x .bindings ∙ sym (y .bindings)) (x .module-entries ∙ sym (y .module-entries)) (x .slots ∙ sym (y .slots)) (x .copies ∙ sym (y .copies)) (x .errors ∙ sym (y .errors)),
+          buffers-same (x .zeroed .nodes ∙ sym (y .zeroed .nodes)) (x .zeroed .bindings ∙ sym (y .zeroed .bindings)) (x .zeroed .entries ∙ sym (y .zeroed .entries)) (x .zeroed .scopes ∙ sym (y .zeroed .scopes)) (x .zeroed .slots ∙ sym (y .zeroed .slots)) (x .zeroed .copies ∙ sym (y .zeroed .copies)) (x .zeroed .errors ∙ sym (y .zeroed .errors)),
+        )
