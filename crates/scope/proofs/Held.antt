@@ -1,8 +1,8 @@
 -- What a node's place in the working list holds is its answer: the walks answer by the module's bindings alone, which come first among all.
-use Prim.Native.Nat.{ℕ, suc, _+_, _-_, _<_, _≤_}
+use Prim.Native.Nat.{ℕ, suc, _+_, _-_, _<_}
 use mathlib.Core.Path.{_≡_, refl, sym, ap, ap₂, _∙_}
 use mathlib.Core.List.{List, [], _∷_, _++_, map}
-use mathlib.Core.Option.{Option, none, some}
+use mathlib.Core.Option.{Option, some}
 use native.Mathlib.Omega.{arith}
 use native.Mathlib.Decide.{decLt}
 use lib.ListN.{length, getElem?}
@@ -11,13 +11,12 @@ use Rattle.lexical.specs.Places.{All, Distinct, at-append, at-left, map-at, map
 use Rattle.lexical.specs.Tree.{nodesIn}
 use Rattle.lexical.specs.Table.{Headed}
 use Rattle.lexical.specs.Module.{File, module′, global, missing}
-use Rattle.lexical.specs.State.{Binding, Event, Found, local, refused, outside, Named}
+use Rattle.lexical.specs.State.{Binding, Event, Found, local, refused, outside}
 use Rattle.lexical.specs.First.{start}
 use Rattle.lexical.specs.Third.{resolved}
 use Rattle.lexical.specs.Records as rec
 use Rattle.lexical.specs.Claims.{Scoped}
 use Rattle.lexical.specs.Code.Numbers.{made-start}
-use Rattle.store.specs.Words.{rowNode, rowWord}
 use Rattle.store.specs.Image.{RowOf, name-row, ident-row, HeldAt, held, none-held}
 use Rattle.target.specs.Alike.{at-behind}
 use Rattle.scope.specs.Packed.{nodeAnswer}

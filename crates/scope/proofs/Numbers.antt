@@ -1,13 +1,12 @@
 -- The number that `resolve` gives, and what it gives with it: 1, judging's 2 to 11, what comes of an accepted file.
 use Prim.Native.Nat.{ℕ, _<_, _≤_}
-use mathlib.Core.Path.{_≡_, refl, sym, ap, _∙_, subst}
+use mathlib.Core.Path.{_≡_, sym, ap, _∙_, subst}
 use mathlib.Core.List.{List, map}
 use native.Mathlib.Omega.{arith}
 use native.Mathlib.Decide.{decLt}
 use lib.ListN.{length, getD, replicate, length-replicate}
 use Rattle.base.specs.UpTo.{upTo}
 use Rattle.base.specs.Smallest.{Smallest}
-use Rattle.lexical.specs.Tree.{Forest}
 use Rattle.lexical.specs.Module.{File}
 use Rattle.lexical.specs.Records.{records}
 use Rattle.store.specs.Laws.Points.{Zeros, zeros}
@@ -16,7 +15,7 @@ use Rattle.scope.specs.declared.Answer.{Answer}
 use Rattle.scope.specs.Buffers.{Buffers, Short, short-nodes, short-bindings, short-entries, short-scopes, short-slots, short-copies, short-errors, Front, Zeroed}
 use Rattle.scope.specs.Packed.{bindingOf, entryOf, pairOf, copyOf, nodeAnswer}
 use Rattle.scope.specs.Answer.{ManySlots, many-slots, Cond, refusal, Refused, Given, Resolves}
-use Rattle.scope.specs.Accepted.{Roomy, Blank, PreAccepted, Accepting, many, few}
+use Rattle.scope.specs.Accepted.{PreAccepted, Accepting, many, few}
 use Rattle.scope.specs.Laws.Conditions.{smallest-short, smallest-judged, smallest-many, smallest-none}
 use Rattle.scope.specs.Laws.Accepts.{judged-ready, judged-tree}
 

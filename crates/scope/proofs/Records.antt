@@ -2,16 +2,15 @@
 use Prim.Native.Nat.{ℕ, zero, suc, _+_, _*_, _<_, _≤_}
 use mathlib.Core.Path.{_≡_, refl, sym, ap, _∙_, subst}
 use mathlib.Core.Logic.{inl, inr}
-use mathlib.Core.List.{List, [], _∷_, _++_, map}
-use mathlib.Core.Option.{none, some}
+use mathlib.Core.List.{List, [], _∷_, map}
+use mathlib.Core.Option.{some}
 use native.Mathlib.Omega.{arith}
 use native.Mathlib.Nat.{zero-add}
 use native.Mathlib.Decide.{decLt}
-use lib.Dec.{eqb}
 use lib.ListN.{length, getD, getElem?, length-map, length-append}
 use Rattle.base.specs.UpTo.{upTo, upTo-length, upTo-get, at-some}
-use Rattle.lexical.specs.Lists.{first, count, none-some, eqb-true, eqb-not, Opened, absent, present, opened}
-use Rattle.lexical.specs.Places.{In, at-left, at-below, at-append, map-at, first-no}
+use Rattle.lexical.specs.Lists.{none-some, eqb-true}
+use Rattle.lexical.specs.Places.{In, at-below, at-append, map-at, first-no}
 use Rattle.lexical.specs.Tree.{Forest, scopesIn, paramsIn}
 use Rattle.lexical.specs.Module.{File}
 use Rattle.lexical.specs.State.{Binding}
@@ -29,7 +28,7 @@ use Rattle.store.specs.Sections.{Mem, wordAt}
 use Rattle.store.specs.Words.{bindWord, slotWord, copyWord, errorWord}
 use Rattle.store.specs.Image.{Image}
 use Rattle.store.specs.Rel.{caps}
-use Rattle.store.specs.Laws.Points.{Zeros, word-at, absent-past}
+use Rattle.store.specs.Laws.Points.{Zeros, word-at}
 use Rattle.target.specs.Alike.{map-like}
 use Rattle.collect.specs.Declare.{counted}
 use Rattle.scope.specs.Buffers.{Front}

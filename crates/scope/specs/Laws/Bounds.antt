@@ -4,30 +4,28 @@
 use Prim.Native.Nat.{ℕ, _+_, _*_, _<_, _≤_}
 use mathlib.Core.Path.{_≡_, refl, sym, ap, _∙_, subst}
 use mathlib.Core.Logic.{inl, inr}
-use mathlib.Core.Bool.{Bool, true, false, cond}
+use mathlib.Core.Bool.{Bool, true, false}
 use mathlib.Core.List.{List, [], _∷_, _++_}
-use mathlib.Core.Option.{Option, none, some}
+use mathlib.Core.Option.{some}
 use native.Mathlib.Omega.{arith}
 use native.Mathlib.Decide.{decLt}
-use lib.ListN.{length, getD, getElem?, length-append}
+use lib.ListN.{length, getElem?}
 use Rattle.bits.specs.FieldLaws.{field-lt}
 use Rattle.base.specs.UpTo.{at-right}
-use Rattle.lexical.specs.Lists.{none-some, mapO, Tested, was, wasnt, tested}
-use Rattle.lexical.specs.Places.{All, In, at-below, at-left, mapO-some}
+use Rattle.lexical.specs.Lists.{Tested, was, wasnt, tested}
+use Rattle.lexical.specs.Places.{In, at-below, at-left, mapO-some}
 use Rattle.lexical.specs.Tree.{Forest, scopesIn}
-use Rattle.lexical.specs.Binders.{Var, collect, unmarked}
+use Rattle.lexical.specs.Binders.{collect, unmarked}
 use Rattle.lexical.specs.Module.{Entry, File}
 use Rattle.lexical.specs.State.{Binding, Slot, Copy}
 use Rattle.lexical.specs.First.{start}
 use Rattle.lexical.specs.Third.{resolved}
-use Rattle.lexical.specs.Claims.{Scoped}
 use Rattle.lexical.specs.Code.Numbers.{made-start, local-capacity}
 use Rattle.lexical.specs.Code.Below as low
 use Rattle.nodefile.specs.Layout.{entryCount, entriesOf}
 use Rattle.nodefile.specs.FileOf.{fileOf, entryOf}
 use Rattle.nodefile.specs.FileLaws.{entries-count, entries-at}
 use Rattle.store.specs.Blocks.{moduleBlock, nothing, placed, varsOf, bindingsOf, blockSt}
-use Rattle.store.specs.Rel.{World}
 use Rattle.target.specs.Placed.{placed-at}
 use Rattle.target.specs.Entries.{unsettled, facts-module, start-is}
 use Rattle.note.specs.Noted.{ListsOk}

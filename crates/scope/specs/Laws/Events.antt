@@ -3,21 +3,20 @@
 --     answer-bounds, name-bounds, error-bounds       row by row
 --     row-in, row-from                               the rows of lookups, in a list and lookup by lookup
 --     errors-known                                   an error's row
-use Prim.Native.Nat.{ℕ, zero, suc, _+_, _*_, _<_, _≤_}
+use Prim.Native.Nat.{ℕ, zero, suc, _+_, _<_, _≤_}
 use mathlib.Core.Path.{_≡_, refl, sym, ap, _∙_, subst}
 use mathlib.Core.Logic.{inl, inr}
 use mathlib.Core.Bool.{Bool, true, false, cond}
-use mathlib.Core.List.{List, [], _∷_, _++_, map, map-append}
+use mathlib.Core.List.{List, [], _∷_, _++_, map}
 use mathlib.Core.Option.{Option, none, some}
 use native.Mathlib.Omega.{arith}
 use lib.Dec.{eqb}
 use lib.ListN.{length, getD, getElem?, length-append}
 use Rattle.base.specs.UpTo.{at-some}
 use Rattle.lexical.specs.Lists.{none-some, eqb-self, eqb-true, Tested, was, wasnt, tested}
-use Rattle.lexical.specs.Places.{In, Distinct, at-below, at-append}
-use Rattle.lexical.specs.Sums.{total, one, times, total-append}
+use Rattle.lexical.specs.Places.{In, at-below}
+use Rattle.lexical.specs.Sums.{total, one, times}
 use Rattle.lexical.specs.Tree.{Forest, isLook, way, identsIn, top}
-use Rattle.lexical.specs.Table.{Headed}
 use Rattle.lexical.specs.Module.{File, module′, global, missing, outerOf}
 use Rattle.lexical.specs.Meaning.{Meaning, meaning}
 use Rattle.lexical.specs.State.{Binding, Event, Named, Found, local, refused, outside}
@@ -27,24 +26,19 @@ use Rattle.lexical.specs.Records as rec
 use Rattle.lexical.specs.Claims.{OfLocal, seen}
 use Rattle.lexical.specs.Theorems.{T1-all, T1-global, named-known}
 use Rattle.lexical.specs.Code.Numbers.{made-start, fresh-all}
-use Rattle.lexical.specs.Code.Rows.{node-once}
 use Rattle.lexical.specs.Proof.Outcome.{site-of, meaning-of, means-outside}
 use Rattle.lexical.specs.Proof.Chains.{Led}
 use Rattle.lexical.specs.Proof.Last.{last}
 use Rattle.lexical.specs.Code.Below.{SlotFits, answer-below}
 use Rattle.nodefile.specs.Layout.{nodeCount, nodesOf}
-use Rattle.nodefile.specs.Reads.{Reads}
 use Rattle.nodefile.specs.FileOf.{fileOf}
 use Rattle.nodefile.specs.FileLaws.{globals-count}
 use Rattle.nodefile.specs.Listed.{listed-in}
-use Rattle.store.specs.Words.{rowNode}
 use Rattle.target.specs.Alike.{at-behind}
 use Rattle.scope.specs.Ready.{Ready}
-use Rattle.scope.specs.Packed.{nodeAnswer}
-use Rattle.scope.specs.Laws.Readies.{ready-scoped, ready-headed, ready-distinct, ready-length, ready-made}
-use Rattle.scope.specs.Laws.Rows.{rowsOf, answer-none}
+use Rattle.scope.specs.Laws.Readies.{ready-scoped, ready-length, ready-made}
 use Rattle.scope.specs.Laws.Early.{found-early}
-use Rattle.scope.specs.Laws.Bounds.{MadeBounds, made-bounds}
+use Rattle.scope.specs.Laws.Bounds.{made-bounds}
 
 -- class 2, slot or global 15, binding 15
 abbrev pub RowFits : List ℕ → Type 0

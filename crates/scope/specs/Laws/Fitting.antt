@@ -1,14 +1,14 @@
 -- Names and sources fit their fields: they are those of Name nodes and of module entries, and a slot's name is its binding's.
 --     resolved-fit   those of a file's last state
-use Prim.Native.Nat.{ℕ, suc, _<_, _≤_}
-use mathlib.Core.Path.{_≡_, refl, sym, ap, _∙_, subst}
+use Prim.Native.Nat.{ℕ, suc, _<_}
+use mathlib.Core.Path.{_≡_, refl, subst}
 use mathlib.Core.Bool.{Bool, true, false, cond}
-use mathlib.Core.List.{List, [], _∷_, _++_, map}
+use mathlib.Core.List.{List, [], _∷_, map}
 use mathlib.Core.Option.{Option, none, some}
 use native.Mathlib.Omega.{arith}
 use lib.Dec.{eqb}
 use lib.ListN.{getElem?}
-use Rattle.lexical.specs.Lists.{first, either, none-some, Opened, absent, present, opened}
+use Rattle.lexical.specs.Lists.{first, either, Opened, absent, present, opened}
 use Rattle.lexical.specs.Places.{All, all-none, all-cons, all-append, all-snoc, all-map, map-at, first-at}
 use Rattle.lexical.specs.Tree.{Forest, nil, node, Way, plain, isFn, isLook, way, empty, after, Turn, turn, inOrder, inside, opening, behind, Pick, through, shut, head, name, loop, load, param, pick, top}
 use Rattle.lexical.specs.Binders.{Names, Marks, Target, Var, target, headTarget, gather, collect, unmarked, looping, targets, newVar, again, note, merge}

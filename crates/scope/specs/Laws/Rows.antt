@@ -1,14 +1,14 @@
 -- A node's answer: no node has two rows among the Names' and the Idents' together, so that its place in the buffer holds the one it has.
 --     answer-at, answer-none, error-none   the place of a node that has a row, of one that has none, of one that has an error
 use Prim.Native.Nat.{ℕ, zero, suc, _+_, _≤_}
-use mathlib.Core.Path.{_≡_, refl, sym, ap, _∙_}
-use mathlib.Core.Bool.{true, false}
+use mathlib.Core.Path.{_≡_, refl, ap}
+use mathlib.Core.Bool.{true}
 use mathlib.Core.List.{List, [], _∷_, _++_, map, map-append}
 use mathlib.Core.Option.{Option, none, some}
 use native.Mathlib.Omega.{arith}
 use lib.Dec.{eqb}
 use lib.ListN.{getElem?}
-use Rattle.lexical.specs.Lists.{first, none-some, eqb-self, eqb-true, eqb-not, Tested, was, wasnt, tested}
+use Rattle.lexical.specs.Lists.{first, none-some, eqb-self, eqb-true, Tested, was, wasnt, tested}
 use Rattle.lexical.specs.Places.{Distinct, first-no}
 use Rattle.lexical.specs.Sums.{total, one, times, total-append}
 use Rattle.lexical.specs.Tree.{nodesIn}

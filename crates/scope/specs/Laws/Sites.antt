@@ -5,12 +5,12 @@ use mathlib.Core.Path.{_≡_, refl, sym, ap, _∙_, subst}
 use mathlib.Core.Logic.{_⊎_, inl, inr, ⊎-elim}
 use mathlib.Core.Bool.{Bool, true, false}
 use mathlib.Core.List.{List, [], _∷_, _++_, map}
-use mathlib.Core.Option.{none, some}
+use mathlib.Core.Option.{some}
 use native.Mathlib.Omega.{arith}
 use lib.Dec.{eqb}
 use lib.ListN.{length, getElem?}
 use Rattle.lexical.specs.Lists.{none-some, either, eqb-self, eqb-true, Tested, was, wasnt, tested}
-use Rattle.lexical.specs.Places.{In, at-append, map-from}
+use Rattle.lexical.specs.Places.{In, at-append}
 use Rattle.lexical.specs.Sums.{total, one, times}
 use Rattle.lexical.specs.Tree.{Forest, nil, node, Way, plain, isLook, way, empty, when, turn, Turn, inOrder, inside, opening, behind, identsIn}
 use Rattle.lexical.specs.Binders.{Names, Target, targets}
@@ -19,10 +19,9 @@ use Rattle.lexical.specs.Meaning.{Around, around, Site}
 use Rattle.lexical.specs.Order.{Step, ident, opens, siteHere, arranged, steps, idents, idents-append}
 use Rattle.lexical.specs.State.{Event}
 use Rattle.lexical.specs.Third.{resolved}
-use Rattle.lexical.specs.Claims.{Scoped, sitesOf, view, told, ancestors}
+use Rattle.lexical.specs.Claims.{Scoped, view, told, ancestors}
 use Rattle.lexical.specs.Theorems.{T1-all, T1-at}
 use Rattle.lexical.specs.Proof.Outcome.{site-of, node-of, name-of}
-use Rattle.nodefile.specs.Node.{valueOf}
 use Rattle.nodefile.specs.Reads.{Reads}
 use Rattle.nodefile.specs.Order.{Spot, spotsIn, spot-at}
 use Rattle.nodefile.specs.Listed.{kindAt, valueAt, in-listed, nodes-distinct}

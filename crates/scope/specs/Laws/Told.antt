@@ -1,8 +1,8 @@
 -- The theorems on bytes, proved: the buffers of an accepted file read field by field, and what they say of each Ident.
-use Prim.Native.Nat.{ℕ, _+_, _*_, _<_, _≤_}
-use mathlib.Core.Path.{_≡_, refl, sym, ap, _∙_, subst}
+use Prim.Native.Nat.{ℕ, _+_, _<_, _≤_}
+use mathlib.Core.Path.{_≡_, refl, sym, ap, _∙_}
 use mathlib.Core.Bool.{Bool, true, false}
-use mathlib.Core.List.{List, [], _∷_, _++_, map, reverse}
+use mathlib.Core.List.{List, [], _∷_, map, reverse}
 use mathlib.Core.Option.{some}
 use native.Mathlib.Omega.{arith}
 use native.Mathlib.Decide.{decLt}
@@ -14,7 +14,7 @@ use Rattle.lexical.specs.Places.{at-below, map-at}
 use Rattle.lexical.specs.Tree.{Forest}
 use Rattle.lexical.specs.Module.{File, module′, global, missing, outerOf}
 use Rattle.lexical.specs.Meaning.{Site, Meaning, local, refused, outside, meaning, scopesOf}
-use Rattle.lexical.specs.State.{Binding, Event}
+use Rattle.lexical.specs.State.{Binding}
 use Rattle.lexical.specs.Third.{resolved}
 use Rattle.lexical.specs.Follow.{follow}
 use Rattle.lexical.specs.Schemes.{copiesInto}
@@ -31,9 +31,9 @@ use Rattle.follow.specs.Place.{copiesOf, followed, placeOf}
 use Rattle.scope.specs.declared.Answer.{Answer}
 use Rattle.scope.specs.Buffers.{Buffers}
 use Rattle.scope.specs.Packed.{bindingWidths, answerOf, nodeAnswer}
-use Rattle.scope.specs.Answer.{ManySlots, many-slots, Cond, Given, Resolves}
+use Rattle.scope.specs.Answer.{many-slots, Cond, Given, Resolves}
 use Rattle.scope.specs.Ready.{Ready}
-use Rattle.scope.specs.Shown.{nodeFields, errorFields, bindingFields, copyRecords, BindingShown, LocalShown, ModuleShown, ErrorShown, Shown, Homeward}
+use Rattle.scope.specs.Shown.{nodeFields, bindingFields, copyRecords, BindingShown, ErrorShown, Shown, Homeward}
 use Rattle.scope.specs.Laws.Front.{front-get}
 use Rattle.scope.specs.Laws.Readies.{ready-scoped, ready-headed, ready-distinct}
 use Rattle.scope.specs.Laws.Rows.{rowsOf, answer-at, error-none}
