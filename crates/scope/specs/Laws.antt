@@ -1,4 +1,5 @@
 -- What the proofs, and whoever reads the buffers, use of these definitions.
+pub mod Lists
 pub mod Front
 pub mod Words
 pub mod Rows
@@ -8,10 +9,15 @@ pub mod Within
 pub mod Conditions
 pub mod Sites
 pub mod Early
+pub mod Targets
 pub mod Fitting
 pub mod Bounds
 pub mod Events
 pub mod Reading
 pub mod Copies
+pub mod Zero
+pub mod Narrow
+pub mod Records
 pub mod Told
+pub mod Named
 pub mod Least

@@ -1,32 +1,34 @@
 -- The words of the theorems on bytes: what an answer's buffers say of an Ident, read field by field (document 01, "Answer buffers").
-use Prim.Native.Nat.{ℕ, _<_}
+use Prim.Native.Nat.{ℕ, _+_, _<_}
 use mathlib.Core.Path.{_≡_}
 use mathlib.Core.Bool.{true}
-use mathlib.Core.List.{List, [], _∷_, map, reverse}
-use mathlib.Core.Option.{some}
+use mathlib.Core.List.{List, [], _∷_, _++_, map, reverse}
+use mathlib.Core.Option.{Option, some}
 use lib.ListN.{getD, getElem?, take}
-use Rattle.bits.specs.Pack.{unpack}
+use Rattle.bits.specs.Pack.{values, unpack}
 use Rattle.lexical.specs.Lists.{orElse}
 use Rattle.lexical.specs.Tree.{plain}
 use Rattle.lexical.specs.Binders.{collect, unmarked}
 use Rattle.lexical.specs.Module.{File, entryVar, module′, global, missing, outerOf}
 use Rattle.lexical.specs.Meaning.{Around, Site, Meaning, local, refused, outside, meaning, declares, declared, scopesOf}
+use Rattle.lexical.specs.Order.{fnBlocks, blocks, allNames}
 use Rattle.lexical.specs.State.{Binding}
 use Rattle.lexical.specs.Third.{resolved}
+use Rattle.lexical.specs.Records.{Records}
 use Rattle.lexical.specs.Schemes.{Scheme, AtHand}
-use Rattle.lexical.specs.Claims.{ancestors, sitesOf, source, NotModule, NotGlobal}
+use Rattle.lexical.specs.Claims.{ancestors, stepsOf, sitesOf, source, moduleNames, NotModule, NotGlobal}
 use Rattle.follow.specs.Place.{followed, placeOf}
 use Rattle.scope.specs.declared.Answer.{Answer}
 use Rattle.scope.specs.Buffers.{Buffers}
-use Rattle.scope.specs.Packed.{bindingWidths}
+use Rattle.scope.specs.Packed.{fields, bindingWidths, entryWidths, pairWidths, copyWidths, nodeWidths}
 
 -- node x: class, slot or global, binding
 abbrev pub nodeFields : Buffers → ℕ → List ℕ
-nodeFields b x = unpack (2 ∷ 15 ∷ 15 ∷ []) (getD (b .nodes) x 0)
+nodeFields b x = unpack nodeWidths (getD (b .nodes) x 0)
 
 -- error j: node, code
 abbrev pub errorFields : Buffers → ℕ → List ℕ
-errorFields b j = unpack (16 ∷ 16 ∷ []) (getD (b .errors) j 0)
+errorFields b j = unpack pairWidths (getD (b .errors) j 0)
 
 -- binding k: name, source, from-module, public, any, captured, local, slot, zero
 abbrev pub bindingFields : Buffers → ℕ → List ℕ
@@ -82,6 +84,21 @@ pub record Told (F : File) (a : Answer) (b : Buffers) (x n : ℕ) : Type 0 where
   pub above : ancestors (F .names) x (F .root) plain 0 [] true [] ≡ some up
   pub shown : let s : Site = record { node = x; name = n; above = up } in Shown F a b s (meaning (outerOf F) s)
 
+-- the Names of a file, each with the first Name of its block that declares the same (65,535 where a module entry has the name): the module's Names, the functions' in node order, the comprehensions' in order of resolving
+abbrev pub namesOf : File → List (ℕ × Option ℕ)
+namesOf F = (moduleNames F ++ allNames (fnBlocks (F .names) (F .root))) ++ allNames (blocks (stepsOf F))
+
+-- a Name, by its node and name: its binding is the one of that name which the first Name of its block declares, and its record has that binding's slot
+pub record NameShown (F : File) (a : Answer) (b : Buffers) (x n : ℕ) : Type 0 where
+  pub declared-by : ℕ
+  pub place : ℕ
+  pub told : getElem? (namesOf F) place ≡ some (x, some declared-by)
+  pub local : ℕ
+  pub slot : ℕ
+  pub binding : ℕ
+  pub answered : nodeFields b x ≡ (local + 1) ∷ slot ∷ binding ∷ []
+  pub shown : BindingShown a b binding n declared-by local slot
+
 -- T2's: an Ident of name n among the nodes `up`, answered by slot k and binding i: the local that it means, and where the copies lead from the slot
 pub record Homeward (a : Answer) (b : Buffers) (n : ℕ) (up : List Around) (k i : ℕ) : Type 0 where
   pub scope : ℕ
@@ -95,3 +112,22 @@ abbrev pub ServesAll : File → Scheme → Type 0
 ServesAll F S = (j : ℕ) (s : Site) → getElem? (sitesOf F) j ≡ some s
     → (i : ℕ) (x : Binding) → getElem? (resolved F .made) i ≡ some x → x .local ≡ true → declared (s .name) (s .above) ≡ some (x .owner, x .var .source)
     → (k : ℕ) × AtHand S (scopesOf (s .above)) k x
+
+-- each record of a list, taken out of its buffer field by field, is the row that was packed: widths, rows, buffer
+abbrev pub ReadsBack : List ℕ → List (List ℕ) → List ℕ → Type 0
+ReadsBack ws rows l = (k : ℕ) (row : List ℕ) → getElem? rows k ≡ some row → unpack ws (getD l k 0) ≡ values (fields ws row)
+
+-- the six lists
+abbrev pub lists : Records → Buffers → List (List ℕ × List (List ℕ) × List ℕ)
+lists R b =
+    (bindingWidths, R .bindings, b .bindings)
+    ∷ (entryWidths, R .entries, b .entries)
+    ∷ (pairWidths, R .scopes, b .scopes)
+    ∷ (pairWidths, R .slots, b .slots)
+    ∷ (copyWidths, R .copies, b .copies)
+    ∷ (pairWidths, R .errors, b .errors)
+    ∷ []
+
+abbrev pub AllBack : List (List ℕ × List (List ℕ) × List ℕ) → Type 0
+AllBack [] = Unit {0}
+AllBack (l ∷ ls) = ReadsBack (l .0) (l .1) (l .2) × AllBack ls

@@ -8,7 +8,7 @@ use mathlib.Core.List.{List, [], _∷_, map}
 use mathlib.Core.Option.{some}
 use native.Mathlib.Omega.{arith}
 use native.Mathlib.Decide.{ℕ-discrete}
-use lib.ListN.{length}
+use lib.ListN.{length, getD}
 use Rattle.base.specs.Smallest.{Clear, none, smallest-one}
 use Rattle.lexical.specs.Tree.{Forest, plain}
 use Rattle.lexical.specs.Module.{File, outerOf}
@@ -27,12 +27,14 @@ use Rattle.scope.specs.declared.Answer.{Answer}
 use Rattle.scope.specs.Buffers.{Buffers, buffers, Front}
 use Rattle.scope.specs.Packed.{pairOf}
 use Rattle.scope.specs.Answer.{Cond, Resolves}
-use Rattle.scope.specs.Shown.{nodeFields, copyRecords, Told, Homeward, ServesAll}
+use Rattle.scope.specs.Shown.{nodeFields, copyRecords, Told, NameShown, Homeward, ServesAll, lists, AllBack}
 use Rattle.scope.specs.Laws.Accepts.{judged-tree}
-use Rattle.scope.specs.Laws.Conditions.{zero-judged}
 use Rattle.scope.specs.Laws.Readies.{ready-scoped, ready-distinct, ready-length}
 use Rattle.scope.specs.Laws.Sites.{ident-event}
-use Rattle.scope.specs.Laws.Told.{zero-ready, zero-slots, ident-shown, homeward, copies-into}
+use Rattle.scope.specs.Laws.Zero.{zero-accepted, zero-ready, zero-slots}
+use Rattle.scope.specs.Laws.Records.{back, copies-into}
+use Rattle.scope.specs.Laws.Told.{ident-shown, homeward}
+use Rattle.scope.specs.Laws.Named.{name-shown, other-empty}
 use Rattle.scope.specs.Laws.Least.{serves-lookups, serves-idents}
 
 -- ---- the number
@@ -46,7 +48,7 @@ none-true r c = smallest-one (r .number) (none refl c)
 module _ {bs : List ℕ} {b b′ : Buffers} {a : Answer} (r : Resolves bs b a b′) (z : a .number ≡ 0) where
   -- its nodes hold a tree; no second one (nodefile's `reads-one`)
   pub a-tree : (root : Forest) × Reads (nodesOf bs) 0 root
-  a-tree = judged-tree (zero-judged bs b (rw z at (r .number)))
+  a-tree = judged-tree (zero-accepted r z)
 
   module _ (root : Forest) (t : Reads (nodesOf bs) 0 root) where
     abbrev F : File
@@ -64,6 +66,14 @@ module _ {bs : List ℕ} {b b′ : Buffers} {a : Answer} (r : Resolves bs b a b�
     unfolding records
     T1-errors = subst (λ (xs : List (List ℕ)). Front (b′ .errors) (length (b .errors)) (map pairOf xs)) (lexical.T1-errors F (ready-scoped (zero-ready r z root t))) (r .given z root t .errors-hold)
 
+    -- Every Name of the node list: its record has the slot and the number of its binding, which is the one that the first Name of its block with that spelling declares.
+    pub T1-names : (x : ℕ) → x < nodeCount bs → kindAt (nodesOf bs) x ≡ 8 → NameShown F a b′ x (valueAt (nodesOf bs) x)
+    T1-names = name-shown (zero-ready r z root t) (zero-slots r z root t) (r .given z root t)
+
+    -- Every other node: 0.
+    pub T1-others : (x : ℕ) → x < nodeCount bs → (kindAt (nodesOf bs) x ≡ 8 → ⊥) → (kindAt (nodesOf bs) x ≡ 11 → ⊥) → getD (b′ .nodes) x 0 ≡ 0
+    T1-others = other-empty (zero-ready r z root t) (zero-slots r z root t) (r .given z root t)
+
     -- T2. From the slot that an Ident is answered by the copies lead, scope by scope outward, to the slot of the local that it means, in the scope which that belongs to.
     pub T2 : (x : ℕ) → x < nodeCount bs → kindAt (nodesOf bs) x ≡ 11 → (k i : ℕ) → nodeFields b′ x ≡ 2 ∷ k ∷ i ∷ [] → (up : List Around) → ancestors (F .names) x root plain 0 [] true [] ≡ some up → Homeward a b′ (valueAt (nodesOf bs) x) up k i
     T2 x h n k i e up q = let p = T1 x h n in let y : p .up ≡ up = let w : some (p .up) ≡ some up = sym (p .above) ∙ q in cc in
@@ -80,6 +90,10 @@ module _ {bs : List ℕ} {b b′ : Buffers} {a : Answer} (r : Resolves bs b a b�
     T3-met =
         let q = zero-ready r z root t in
         (ours (resolved F), serves-idents F (ready-scoped q) (ours (resolved F)) (ready-distinct q) (lexical.T3-ours F (ready-scoped q)), λ s. lexical.T3-count F (ready-scoped q) s ∙ sym (copies-into q (zero-slots r z root t) (r .given z root t) s))
+
+    -- Nothing is lost in the packing: every record of every list, taken apart, is the row that the walks made.
+    pub reads-back : AllBack (lists (records F) b′)
+    reads-back = back (zero-ready r z root t) (zero-slots r z root t) (r .given z root t)
 
 -- ---- no second answer
 

@@ -1,48 +1,29 @@
 -- A node's answer: no node has two rows among the Names' and the Idents' together, so that its place in the buffer holds the one it has.
---     answer-at, answer-none, error-none   the place of a node that has a row, of one that has none, of one that has an error
-use Prim.Native.Nat.{ℕ, zero, suc, _+_, _≤_}
+--     answer-at, answer-none                the place of a node that has a row, of one that has none
+--     error-none, answer-other              those that have none: a node with an error, a node that is neither a Name nor an Ident
+use Prim.Native.Nat.{ℕ, _+_, _≤_}
 use mathlib.Core.Path.{_≡_, refl, ap}
-use mathlib.Core.Bool.{true}
 use mathlib.Core.List.{List, [], _∷_, _++_, map, map-append}
 use mathlib.Core.Option.{Option, none, some}
 use native.Mathlib.Omega.{arith}
-use lib.Dec.{eqb}
+use native.Mathlib.Decide.{decLt}
 use lib.ListN.{getElem?}
-use Rattle.lexical.specs.Lists.{first, none-some, eqb-self, eqb-true, Tested, was, wasnt, tested}
-use Rattle.lexical.specs.Places.{Distinct, first-no}
-use Rattle.lexical.specs.Sums.{total, one, times, total-append}
-use Rattle.lexical.specs.Tree.{nodesIn}
+use Rattle.lexical.specs.Lists.{eqb-true}
+use Rattle.lexical.specs.Places.{In, Distinct, first-no}
+use Rattle.lexical.specs.Sums.{total, one, times, total-append, total-map}
+use Rattle.lexical.specs.Tree.{nodesIn, namesIn, identsIn}
 use Rattle.lexical.specs.Table.{Headed}
 use Rattle.lexical.specs.Module.{File, module′, global, missing}
 use Rattle.lexical.specs.State.{Binding, Named, Event, Found, local, refused, outside}
 use Rattle.lexical.specs.Third.{resolved}
 use Rattle.lexical.specs.Claims.{Scoped}
 use Rattle.lexical.specs.Records as rec
+use Rattle.lexical.specs.Theorems.{T1-all}
+use Rattle.lexical.specs.Code.Capacity.{named-size}
 use Rattle.lexical.specs.Code.Rows.{node-once}
 use Rattle.store.specs.Words.{rowNode}
+use Rattle.scope.specs.Laws.Lists.{times-at, in-times, first-once}
 use Rattle.scope.specs.Packed.{ofNode, answerOf, nodeAnswer}
-
--- ---- an element that has its number alone
-
-module _ {A : Type 0} (f : A → ℕ) where
-  times-at : (i : ℕ) (xs : List A) (j : ℕ) (a : A) → getElem? xs j ≡ some a → f a ≡ i → 1 ≤ times i (map f xs)
-  unfolding total one
-  times-at i [] j a e q = absurd (none-some refl e)
-  times-at i (x ∷ xs) zero a e q = let z : x ≡ a = cc in let y : eqb i (f x) ≡ true = rw (z, q) (eqb-self i) in rw y (omega arith)
-  times-at i (x ∷ xs) (suc j) a e q = omega (arith, times-at i xs j a e q)
-
-  pub first-once : (i : ℕ) (xs : List A) → times i (map f xs) ≤ 1 → (j : ℕ) (a : A) → getElem? xs j ≡ some a → f a ≡ i → first (λ x. eqb (f x) i) xs ≡ some a
-  unfolding first total one
-  first-once i [] h j a e q = absurd (none-some refl e)
-  first-once i (x ∷ xs) h j a e q = go (tested (eqb (f x) i)) j e (λ j z. first-once i xs (omega (arith, h)) j a z q)
-    where
-      go : Tested (eqb (f x) i) → (j : ℕ) → getElem? (x ∷ xs) j ≡ some a → ((j : ℕ) → getElem? xs j ≡ some a → first (λ x. eqb (f x) i) xs ≡ some a) → first (λ x. eqb (f x) i) (x ∷ xs) ≡ some a
-      go (was t) zero z r = rw t z
-      go (was t) (suc j) z r = absurd (let u : eqb i (f x) ≡ true = rw (eqb-true (f x) i t) (eqb-self i) in let v : one i (f x) ≡ 1 = rw u refl in omega (arith, h, times-at i xs j a z q))
-      go (wasnt t) zero z r = absurd (let y : x ≡ a = cc in let u : eqb (f x) i ≡ true = rw (y, q) (eqb-self i) in let v : _≡_ {A = ℕ} 0 1 = cc in omega arith)
-      go (wasnt t) (suc j) z r = rw t (r j z)
-
--- ---- the rows of a file
 
 name-node : (x : Named) → rowNode (rec.titleRow x) ≡ x .node
 unfolding rec.nameRow
@@ -95,3 +76,26 @@ module _ (F : File) (ok : Scoped F) (h : Headed (F .root)) (d : Distinct (nodesI
   -- a node with an error has no answer
   pub error-none : (j : ℕ) (row : List ℕ) → getElem? (rec.records F .errors) j ≡ some row → nodeAnswer F (rowNode row) ≡ 0
   error-none j row e = answer-none F (rowNode row) (λ k r a n. omega (arith, rows-errors (rowNode row), times-at rowNode (rowNode row) (rec.records F .errors) j row e refl, times-at rowNode (rowNode row) (rowsOf F) k r a n))
+
+  -- and so has a node that is neither a Name nor an Ident
+  pub answer-other : (i : ℕ) → (In i (namesIn (F .root)) → ⊥) → (In i (identsIn (F .root)) → ⊥) → nodeAnswer F i ≡ 0
+  unfolding rec.records
+  answer-other i n l = answer-none F i (λ j row e q.
+      let names = map rec.titleRow (resolved F .named) in
+      let answers = rec.answers (resolved F .made) (resolved F .log) in
+      let some-row : 1 ≤ times i (map rowNode (names ++ answers)) = times-at rowNode i (names ++ answers) j row e q in
+      let no-name : times i (namesIn (F .root)) ≡ 0 = none-in i (namesIn (F .root)) n in
+      let no-ident : times i (identsIn (F .root)) ≡ 0 = none-in i (identsIn (F .root)) l in
+      omega (
+        arith,
+        ap (times i) (map-append rowNode names answers),
+        total-append (one i) (map rowNode names) (map rowNode answers),
+        names-times i (resolved F .named),
+        total-map (one i) (λ (x : Named). x .node) (resolved F .named),
+        named-size (one i) F h,
+        events-times i (resolved F .made) (resolved F .log),
+        T1-all F ok i,
+      ))
+    where
+      none-in : (i : ℕ) (xs : List ℕ) → (In i xs → ⊥) → times i xs ≡ 0
+      none-in i xs m = elim (decLt 0 (times i xs)) [ yes h ↦ absurd (m (in-times i xs (omega arith))) | no h ↦ omega arith ]
