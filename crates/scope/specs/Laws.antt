@@ -20,4 +20,5 @@ pub mod Narrow
 pub mod Records
 pub mod Told
 pub mod Named
+pub mod Captured
 pub mod Least

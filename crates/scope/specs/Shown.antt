@@ -1,12 +1,14 @@
 -- The words of the theorems on bytes: what an answer's buffers say of an Ident, read field by field (document 01, "Answer buffers").
 use Prim.Native.Nat.{ℕ, _+_, _<_}
 use mathlib.Core.Path.{_≡_}
+use mathlib.Core.Logic.{_↔_}
 use mathlib.Core.Bool.{true}
 use mathlib.Core.List.{List, [], _∷_, _++_, map, reverse}
 use mathlib.Core.Option.{Option, some}
 use lib.ListN.{getD, getElem?, take}
 use Rattle.bits.specs.Pack.{values, unpack}
 use Rattle.lexical.specs.Lists.{orElse}
+use Rattle.lexical.specs.Places.{Some}
 use Rattle.lexical.specs.Tree.{plain}
 use Rattle.lexical.specs.Binders.{collect, unmarked}
 use Rattle.lexical.specs.Module.{File, entryVar, module′, global, missing, outerOf}
@@ -16,7 +18,7 @@ use Rattle.lexical.specs.State.{Binding}
 use Rattle.lexical.specs.Third.{resolved}
 use Rattle.lexical.specs.Records.{Records}
 use Rattle.lexical.specs.Schemes.{Scheme, AtHand}
-use Rattle.lexical.specs.Claims.{ancestors, stepsOf, sitesOf, source, moduleNames, NotModule, NotGlobal}
+use Rattle.lexical.specs.Claims.{ancestors, stepsOf, sitesOf, source, moduleNames, NotModule, NotGlobal, Across, Inside}
 use Rattle.follow.specs.Place.{followed, placeOf}
 use Rattle.scope.specs.declared.Answer.{Answer}
 use Rattle.scope.specs.Buffers.{Buffers}
@@ -98,6 +100,11 @@ pub record NameShown (F : File) (a : Answer) (b : Buffers) (x n : ℕ) : Type 0 
   pub binding : ℕ
   pub answered : nodeFields b x ≡ (local + 1) ∷ slot ∷ binding ∷ []
   pub shown : BindingShown a b binding n declared-by local slot
+
+-- captured, bit 5 of binding k: a local, if some Ident means it from another scope than its own; a module name, if some Ident inside a function means it
+pub record CapturedShown (F : File) (b : Buffers) (k : ℕ) : Type 0 where
+  pub of-local : getD (bindingFields b k) 6 0 ≡ 1 → (getD (bindingFields b k) 5 0 ≡ 1) ↔ Some (λ (s : Site). (o : ℕ) × Across o (getD (bindingFields b k) 1 0) s) (sitesOf F)
+  pub of-module : getD (bindingFields b k) 6 0 ≡ 0 → (getD (bindingFields b k) 5 0 ≡ 1) ↔ Some (Inside (outerOf F) k) (sitesOf F)
 
 -- T2's: an Ident of name n among the nodes `up`, answered by slot k and binding i: the local that it means, and where the copies lead from the slot
 pub record Homeward (a : Answer) (b : Buffers) (n : ℕ) (up : List Around) (k i : ℕ) : Type 0 where

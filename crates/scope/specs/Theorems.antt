@@ -27,7 +27,7 @@ use Rattle.scope.specs.declared.Answer.{Answer}
 use Rattle.scope.specs.Buffers.{Buffers, buffers, Front}
 use Rattle.scope.specs.Packed.{pairOf}
 use Rattle.scope.specs.Answer.{Cond, Resolves}
-use Rattle.scope.specs.Shown.{nodeFields, copyRecords, Told, NameShown, Homeward, ServesAll, lists, AllBack}
+use Rattle.scope.specs.Shown.{nodeFields, copyRecords, Told, NameShown, CapturedShown, Homeward, ServesAll, lists, AllBack}
 use Rattle.scope.specs.Laws.Accepts.{judged-tree}
 use Rattle.scope.specs.Laws.Readies.{ready-scoped, ready-distinct, ready-length}
 use Rattle.scope.specs.Laws.Sites.{ident-event}
@@ -35,6 +35,7 @@ use Rattle.scope.specs.Laws.Zero.{zero-accepted, zero-ready, zero-slots}
 use Rattle.scope.specs.Laws.Records.{back, copies-into}
 use Rattle.scope.specs.Laws.Told.{ident-shown, homeward}
 use Rattle.scope.specs.Laws.Named.{name-shown, other-empty}
+use Rattle.scope.specs.Laws.Captured.{captured-shown}
 use Rattle.scope.specs.Laws.Least.{serves-lookups, serves-idents}
 
 -- ---- the number
@@ -73,6 +74,10 @@ module _ {bs : List ℕ} {b b′ : Buffers} {a : Answer} (r : Resolves bs b a b�
     -- Every other node: 0.
     pub T1-others : (x : ℕ) → x < nodeCount bs → (kindAt (nodesOf bs) x ≡ 8 → ⊥) → (kindAt (nodesOf bs) x ≡ 11 → ⊥) → getD (b′ .nodes) x 0 ≡ 0
     T1-others = other-empty (zero-ready r z root t) (zero-slots r z root t) (r .given z root t)
+
+    -- Captured.
+    pub T1-captured : (k : ℕ) → k < a .bindings → CapturedShown F b′ k
+    T1-captured = captured-shown (zero-ready r z root t) (zero-slots r z root t) (r .given z root t)
 
     -- T2. From the slot that an Ident is answered by the copies lead, scope by scope outward, to the slot of the local that it means, in the scope which that belongs to.
     pub T2 : (x : ℕ) → x < nodeCount bs → kindAt (nodesOf bs) x ≡ 11 → (k i : ℕ) → nodeFields b′ x ≡ 2 ∷ k ∷ i ∷ [] → (up : List Around) → ancestors (F .names) x root plain 0 [] true [] ≡ some up → Homeward a b′ (valueAt (nodesOf bs) x) up k i

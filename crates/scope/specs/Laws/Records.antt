@@ -48,7 +48,7 @@ module _ {bs : List ℕ} {root : Forest} (q : Ready bs root) (few : length (reso
 
   -- ---- the lists
 
-  bindings-back : ReadsBack bindingWidths (rec.records F .bindings) (b′ .bindings)
+  pub bindings-back : ReadsBack bindingWidths (rec.records F .bindings) (b′ .bindings)
   bindings-back = list-back bindingWidths (rec.records F .bindings) (b′ .bindings) (length (b .bindings)) (g .bindings-hold) (bindings-narrow q few)
 
   pub errors-back : ReadsBack pairWidths (rec.records F .errors) (b′ .errors)
