@@ -16,6 +16,7 @@ pub mod Events
 pub mod Reading
 pub mod Copies
 pub mod Zero
+pub mod One
 pub mod Narrow
 pub mod Records
 pub mod Told

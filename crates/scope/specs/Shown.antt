@@ -1,4 +1,4 @@
--- The words of the theorems on bytes: what an answer's buffers say of an Ident, read field by field (document 01, "Answer buffers").
+-- The words of the theorems on bytes: what an answer's buffers, read field by field (document 01, "Answer buffers"), say of an Ident, of a Name, of a binding. Read with Theorems.
 use Prim.Native.Nat.{ℕ, _+_, _<_}
 use mathlib.Core.Path.{_≡_}
 use mathlib.Core.Logic.{_↔_}
@@ -36,19 +36,36 @@ errorFields b j = unpack pairWidths (getD (b .errors) j 0)
 abbrev pub bindingFields : Buffers → ℕ → List ℕ
 bindingFields b k = unpack bindingWidths (getD (b .bindings) k 0)
 
+abbrev pub nameOf : Buffers → ℕ → ℕ
+nameOf b k = getD (bindingFields b k) 0 0
+
+abbrev pub sourceOf : Buffers → ℕ → ℕ
+sourceOf b k = getD (bindingFields b k) 1 0
+
+abbrev pub capturedOf : Buffers → ℕ → ℕ
+capturedOf b k = getD (bindingFields b k) 5 0
+
+abbrev pub localOf : Buffers → ℕ → ℕ
+localOf b k = getD (bindingFields b k) 6 0
+
+abbrev pub slotOf : Buffers → ℕ → ℕ
+slotOf b k = getD (bindingFields b k) 7 0
+
 -- the copies' records
 abbrev pub copyRecords : Answer → Buffers → List ℕ
 copyRecords a b = take (a .copies) (b .copies)
 
--- binding k is of this name, declared by this Name, a local (1) or not (0), and has this slot
+-- binding k of the answer is of this name, declared by this Name, a local (1) or not (0), and has this slot
 pub record BindingShown (a : Answer) (b : Buffers) (k name source local slot : ℕ) : Type 0 where
   pub known : k < a .bindings
-  pub name-is : getD (bindingFields b k) 0 0 ≡ name
-  pub source-is : getD (bindingFields b k) 1 0 ≡ source
-  pub local-is : getD (bindingFields b k) 6 0 ≡ local
-  pub slot-is : getD (bindingFields b k) 7 0 ≡ slot
+  pub name-is : nameOf b k ≡ name
+  pub source-is : sourceOf b k ≡ source
+  pub local-is : localOf b k ≡ local
+  pub slot-is : slotOf b k ≡ slot
 
--- an Ident that means the local which Name d of scope o declares: a slot of its own scope, from which the copies lead to that local's slot in o
+-- ---- T1: an Ident
+
+-- one that means the local which Name d of scope o declares: a slot of the Ident's own scope, from which the copies lead to that local's slot in o
 pub record LocalShown (a : Answer) (b : Buffers) (s : Site) (o d : ℕ) : Type 0 where
   pub slot : ℕ
   pub binding : ℕ
@@ -65,7 +82,7 @@ pub record ModuleShown (F : File) (a : Answer) (b : Buffers) (s : Site) (i : ℕ
   pub shown : BindingShown a b i (s .name) declared-by 0 slot
   pub sourced : orElse (source (s .name) (map entryVar (F .entries))) (declares (s .name) (collect (F .names) unmarked (F .root))) ≡ some declared-by
 
--- one that gives an error: nothing in its place, and a record among the errors
+-- one that gives an error: nothing at its node, and a record among the errors
 pub record ErrorShown (a : Answer) (b : Buffers) (s : Site) (code : ℕ) : Type 0 where
   pub empty : nodeFields b (s .node) ≡ 0 ∷ 0 ∷ 0 ∷ []
   pub place : ℕ
@@ -86,6 +103,8 @@ pub record Told (F : File) (a : Answer) (b : Buffers) (x n : ℕ) : Type 0 where
   pub above : ancestors (F .names) x (F .root) plain 0 [] true [] ≡ some up
   pub shown : let s : Site = record { node = x; name = n; above = up } in Shown F a b s (meaning (outerOf F) s)
 
+-- ---- T1: a Name, a binding
+
 -- the Names of a file, each with the first Name of its block that declares the same (65,535 where a module entry has the name): the module's Names, the functions' in node order, the comprehensions' in order of resolving
 abbrev pub namesOf : File → List (ℕ × Option ℕ)
 namesOf F = (moduleNames F ++ allNames (fnBlocks (F .names) (F .root))) ++ allNames (blocks (stepsOf F))
@@ -101,24 +120,28 @@ pub record NameShown (F : File) (a : Answer) (b : Buffers) (x n : ℕ) : Type 0 
   pub answered : nodeFields b x ≡ (local + 1) ∷ slot ∷ binding ∷ []
   pub shown : BindingShown a b binding n declared-by local slot
 
--- captured, bit 5 of binding k: a local, if some Ident means it from another scope than its own; a module name, if some Ident inside a function means it
+-- captured: a local, if some Ident means it from another scope than its own; a module name, if some Ident inside a function means it
 pub record CapturedShown (F : File) (b : Buffers) (k : ℕ) : Type 0 where
-  pub of-local : getD (bindingFields b k) 6 0 ≡ 1 → (getD (bindingFields b k) 5 0 ≡ 1) ↔ Some (λ (s : Site). (o : ℕ) × Across o (getD (bindingFields b k) 1 0) s) (sitesOf F)
-  pub of-module : getD (bindingFields b k) 6 0 ≡ 0 → (getD (bindingFields b k) 5 0 ≡ 1) ↔ Some (Inside (outerOf F) k) (sitesOf F)
+  pub of-local : localOf b k ≡ 1 → (capturedOf b k ≡ 1) ↔ Some (λ (s : Site). (o : ℕ) × Across o (sourceOf b k) s) (sitesOf F)
+  pub of-module : localOf b k ≡ 0 → (capturedOf b k ≡ 1) ↔ Some (Inside (outerOf F) k) (sitesOf F)
 
--- T2's: an Ident of name n among the nodes `up`, answered by slot k and binding i: the local that it means, and where the copies lead from the slot
+-- ---- T2, T3
+
+-- an Ident of name n among the nodes `up`, answered by slot k and binding i: the local that it means, and where the copies lead from the slot
 pub record Homeward (a : Answer) (b : Buffers) (n : ℕ) (up : List Around) (k i : ℕ) : Type 0 where
   pub scope : ℕ
   pub name : ℕ
   pub means : declared n up ≡ some (scope, name)
-  pub source-is : getD (bindingFields b i) 1 0 ≡ name
-  pub home : followed (copyRecords a b) (reverse (scopesOf up)) k ≡ placeOf (scope, getD (bindingFields b i) 7 0)
+  pub source-is : sourceOf b i ≡ name
+  pub home : followed (copyRecords a b) (reverse (scopesOf up)) k ≡ placeOf (scope, slotOf b i)
 
--- T3's: a scheme of copies has every local at hand where an Ident means it, refused in a type or not
+-- a scheme of copies has every local at hand where an Ident means it, refused in a type or not
 abbrev pub ServesAll : File → Scheme → Type 0
 ServesAll F S = (j : ℕ) (s : Site) → getElem? (sitesOf F) j ≡ some s
     → (i : ℕ) (x : Binding) → getElem? (resolved F .made) i ≡ some x → x .local ≡ true → declared (s .name) (s .above) ≡ some (x .owner, x .var .source)
     → (k : ℕ) × AtHand S (scopesOf (s .above)) k x
+
+-- ---- reading back
 
 -- each record of a list, taken out of its buffer field by field, is the row that was packed: widths, rows, buffer
 abbrev pub ReadsBack : List ℕ → List (List ℕ) → List ℕ → Type 0
