@@ -1,6 +1,6 @@
 -- The seven buffers of a file that is resolved, from the working lists at the end of the walks.
-use Prim.Native.Nat.{ℕ, zero, suc, _+_, _*_, _<_, _≤_}
-use mathlib.Core.Path.{_≡_, refl, sym, ap, _∙_, subst}
+use Prim.Native.Nat.{ℕ, suc, _+_, _*_, _<_, _≤_}
+use mathlib.Core.Path.{_≡_, sym, ap, _∙_, subst}
 use mathlib.Core.Logic.{inl, inr}
 use mathlib.Core.List.{List, [], _∷_, map}
 use mathlib.Core.Option.{some}
@@ -9,7 +9,7 @@ use native.Mathlib.Nat.{zero-add}
 use native.Mathlib.Decide.{decLt}
 use lib.ListN.{length, getD, getElem?, length-map, length-append}
 use Rattle.base.specs.UpTo.{upTo, upTo-length, upTo-get, at-some}
-use Rattle.lexical.specs.Lists.{none-some, eqb-true}
+use Rattle.lexical.specs.Lists.{eqb-true}
 use Rattle.lexical.specs.Places.{In, at-below, at-append, map-at, first-no}
 use Rattle.lexical.specs.Tree.{Forest, scopesIn, paramsIn}
 use Rattle.lexical.specs.Module.{File}
@@ -31,6 +31,7 @@ use Rattle.store.specs.Rel.{caps}
 use Rattle.store.specs.Laws.Points.{Zeros, word-at}
 use Rattle.target.specs.Alike.{map-like}
 use Rattle.collect.specs.Declare.{counted}
+use Rattle.scope.specs.Laws.Lists.{at-in}
 use Rattle.scope.specs.Buffers.{Front}
 use Rattle.scope.specs.Packed.{bindingOf, entryOf, entryFrom, pairOf, copyOf, nodeAnswer}
 use Rattle.scope.specs.Filled.{Filled}
@@ -42,11 +43,6 @@ use Rattle.scope.specs.Laws.Readies.{ready-scoped, ready-headed, ready-d
 use Rattle.scope.specs.Laws.Within.{no-scope}
 use Rattle.scope.proofs.Held.{held-answer}
 use Rattle.scope.proofs.Fronts.{filled-front, section-front, map-words}
-
-at-in : (xs : List ℕ) (k x : ℕ) → getElem? xs k ≡ some x → In x xs
-at-in [] k x e = absurd (none-some refl e)
-at-in (y ∷ xs) zero x e = let z : y ≡ x = cc in inl (sym z)
-at-in (y ∷ xs) (suc k) x e = inr (at-in xs k x e)
 
 -- a scope that no function has has no parameters
 no-params : (root : Forest) (s : ℕ) → (In s (scopesIn root) → ⊥) → paramsAt root s ≡ 0

@@ -26,6 +26,7 @@ use Rattle.judge.specs.Cond.{Judged}
 use Rattle.judge.specs.Lists.{entryNames, globalNames}
 use Rattle.judge.specs.Accepted.{NodeOk, Each, Accepted}
 use Rattle.judge.specs.Theorems.{accepted, accepted-tabled}
+use Rattle.scope.specs.Laws.Lists.{at-in}
 use Rattle.scope.specs.Ready.{Ready}
 
 -- ---- what the table says of children
@@ -99,11 +100,6 @@ valid-each names h (node at k v kids rest) e a b = (
 )
 
 -- ---- its lists
-
-at-in : (xs : List ℕ) (k x : ℕ) → getElem? xs k ≡ some x → In x xs
-at-in [] k x e = absurd (none-some refl e)
-at-in (y ∷ xs) zero x e = let z : y ≡ x = cc in inl (sym z)
-at-in (y ∷ xs) (suc k) x e = inr (at-in xs k x e)
 
 distinct-at : (xs : List ℕ) → Distinct xs → (j k x : ℕ) → j < k → getElem? xs j ≡ some x → getElem? xs k ≡ some x → ⊥
 distinct-at [] d j k x h a b = none-some refl a

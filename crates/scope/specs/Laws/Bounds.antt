@@ -4,7 +4,7 @@
 use Prim.Native.Nat.{ℕ, _+_, _*_, _<_, _≤_}
 use mathlib.Core.Path.{_≡_, refl, sym, ap, _∙_, subst}
 use mathlib.Core.Logic.{inl, inr}
-use mathlib.Core.Bool.{Bool, true, false}
+use mathlib.Core.Bool.{true≢false}
 use mathlib.Core.List.{List, [], _∷_, _++_}
 use mathlib.Core.Option.{some}
 use native.Mathlib.Omega.{arith}
@@ -86,9 +86,6 @@ module _ {bs : List ℕ} {root : Forest} (q : Ready bs root) (few : length (reso
       small : k < 2304
       small = omega (arith, at-below (resolved F .made) k b e, ready-made q)
 
-      apart : {a : Bool} → a ≡ true → a ≡ false → ⊥
-      apart x y = let z : _≡_ {A = ℕ} 0 1 = cc in omega arith
-
       -- one that is no local is of walk one
       slot : Tested (b .local) → b .slot < 32768
       slot (was l) = omega (arith, local-capacity F k b e l)
@@ -96,7 +93,7 @@ module _ {bs : List ℕ} {root : Forest} (q : Ready bs root) (few : length (reso
           let p : getElem? (start F .made ++ made-start F .0) k ≡ some b = subst (λ (l : List Binding). getElem? l k ≡ some b) (made-start F .1) e in
           elim (decLt k (length (start F .made))) [
             | yes h ↦ module-slot F (entry-slots bs root) k b (sym (at-left (start F .made) (made-start F .0) k h) ∙ p) (omega (arith, small))
-            | no h ↦ absurd (apart (made-start F .2 _ b (sym (at-right (start F .made) (made-start F .0) k (omega arith)) ∙ p)) l)
+            | no h ↦ absurd (true≢false (sym (made-start F .2 _ b (sym (at-right (start F .made) (made-start F .0) k (omega arith)) ∙ p)) ∙ l))
           ]
 
   -- a scope with a slot

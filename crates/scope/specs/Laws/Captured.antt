@@ -14,7 +14,7 @@ use Rattle.lexical.specs.Places.{Some, Distinct, map-at}
 use Rattle.lexical.specs.Tree.{Forest, nodesIn}
 use Rattle.lexical.specs.Module.{File, outerOf}
 use Rattle.lexical.specs.Meaning.{Site, declared, meaning}
-use Rattle.lexical.specs.State.{Binding, Event, Found, local, refused, outside}
+use Rattle.lexical.specs.State.{Binding, Found, local, refused, outside}
 use Rattle.lexical.specs.Third.{resolved}
 use Rattle.lexical.specs.Records as rec
 use Rattle.lexical.specs.Claims.{Scoped, OfLocal, Across, seen, sitesOf}

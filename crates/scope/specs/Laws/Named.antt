@@ -1,8 +1,8 @@
 -- Names on bytes: each Name's record is its binding's slot and number. Nodes that are neither Name nor Ident have none.
 --     name-shown, other-empty
 use Prim.Native.Nat.{ℕ, _+_, _<_, _≤_}
-use mathlib.Core.Path.{_≡_, refl, ap, _∙_, subst}
-use mathlib.Core.Bool.{Bool, true, false, cond}
+use mathlib.Core.Path.{_≡_, refl, sym, ap, _∙_, subst}
+use mathlib.Core.Bool.{Bool, true, false, cond, true≢false}
 use mathlib.Core.List.{List, [], _∷_, map}
 use mathlib.Core.Option.{Option, some}
 use native.Mathlib.Omega.{arith}
@@ -95,15 +95,12 @@ module _ {bs : List ℕ} {root : Forest} (q : Ready bs root) (few : length (reso
 
   -- ---- any other node
 
-  differ : {u : Bool} → u ≡ true → u ≡ false → ⊥
-  differ p s = let z : _≡_ {A = ℕ} 0 1 = cc in omega arith
-
   pub other-empty : (x : ℕ) → x < nodeCount bs → (kindAt (nodesOf bs) x ≡ 8 → ⊥) → (kindAt (nodesOf bs) x ≡ 11 → ⊥) → getD (b′ .nodes) x 0 ≡ 0
   unfolding namesIn identsIn
   other-empty x h n l = node-at q few g x h ∙ answer-other F (ready-scoped q) (ready-headed q) (ready-distinct q) x
       (λ m. let d = listed-in root (nodesOf bs) 0 (q .reads) (λ k. isName (pick k)) (λ a k v. a) x m in
       let z : d .index ≡ x = omega (arith, d .is) in
-      differ (subst (λ (i : ℕ). isName (pick (kindAt (nodesOf bs) i)) ≡ true) z (d .passes)) (no-name (kindAt (nodesOf bs) x) n))
+      true≢false (sym (subst (λ (i : ℕ). isName (pick (kindAt (nodesOf bs) i)) ≡ true) z (d .passes)) ∙ no-name (kindAt (nodesOf bs) x) n))
       (λ m. let d = listed-in root (nodesOf bs) 0 (q .reads) (λ k. isLook (way k)) (λ a k v. a) x m in
       let z : d .index ≡ x = omega (arith, d .is) in
-      differ (subst (λ (i : ℕ). isLook (way (kindAt (nodesOf bs) i)) ≡ true) z (d .passes)) (no-look (kindAt (nodesOf bs) x) l))
+      true≢false (sym (subst (λ (i : ℕ). isLook (way (kindAt (nodesOf bs) i)) ≡ true) z (d .passes)) ∙ no-look (kindAt (nodesOf bs) x) l))

@@ -1,8 +1,8 @@
 -- Every number of every row of an accepted file's records fits its field.
 --     bindings-narrow, entries-narrow, scopes-narrow, slots-narrow, copies-narrow, errors-narrow   list by list
-use Prim.Native.Nat.{ℕ, suc, _+_, _<_, _≤_}
+use Prim.Native.Nat.{ℕ, suc, _+_, _≤_}
 use mathlib.Core.Path.{_≡_, refl, sym, subst}
-use mathlib.Core.Bool.{Bool, true, false, cond, not, _&&_}
+use mathlib.Core.Bool.{cond, not, _&&_}
 use mathlib.Core.List.{List, [], _∷_}
 use mathlib.Core.Option.{some}
 use native.Mathlib.Omega.{arith}
@@ -24,16 +24,12 @@ use Rattle.nodefile.specs.FileLaws.{tree-count}
 use Rattle.scope.specs.Packed.{fields, bindingWidths, entryWidths, pairWidths, copyWidths}
 use Rattle.scope.specs.Ready.{Ready}
 use Rattle.scope.specs.Laws.Lists.{row-from}
+use Rattle.scope.specs.Laws.Words.{bit-below}
 use Rattle.scope.specs.Laws.Bounds.{made-bounds, slot-bounds, copy-bounds}
 use Rattle.scope.specs.Laws.Events.{node-small, error-one, error-fits}
 
 abbrev pub Fit : List ℕ → List ℕ → Type 0
 Fit ws row = Narrow (fields ws row)
-
-bit-below : (x : Bool) → rec.bit x < 2
-unfolding rec.bit
-bit-below true = omega arith
-bit-below false = omega arith
 
 -- ---- a function has no more parameters than there are nodes
 

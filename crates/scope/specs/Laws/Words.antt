@@ -41,7 +41,7 @@ unfolding answerOf
 answer-word row = omega arith
 
 -- a module binding's entry, off its record
-bit-below : (x : Bool) → bit x < 2
+pub bit-below : (x : Bool) → bit x < 2
 unfolding bit
 bit-below true = omega arith
 bit-below false = omega arith
