@@ -97,10 +97,14 @@ Shown F a b s (outside (module′ i)) = ModuleShown F a b s i
 Shown F a b s (outside (global g)) = (nodeFields b (s .node) ≡ 3 ∷ g ∷ 0 ∷ []) × (getElem? (F .globals) g ≡ some (s .name)) × NotModule F (s .name)
 Shown F a b s (outside missing) = ErrorShown a b s 1 × NotModule F (s .name) × NotGlobal F (s .name)
 
+-- the nodes around node x, innermost first
+abbrev pub nodesAround : File → ℕ → Option (List Around)
+nodesAround F x = ancestors (F .names) x (F .root) plain 0 [] true []
+
 -- an Ident of the file, by its node and name: the nodes around it, and what the buffers say of its meaning among them
 pub record Told (F : File) (a : Answer) (b : Buffers) (x n : ℕ) : Type 0 where
   pub up : List Around
-  pub above : ancestors (F .names) x (F .root) plain 0 [] true [] ≡ some up
+  pub above : nodesAround F x ≡ some up
   pub shown : let s : Site = record { node = x; name = n; above = up } in Shown F a b s (meaning (outerOf F) s)
 
 -- ---- T1: a Name, a binding

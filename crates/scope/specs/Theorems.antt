@@ -4,18 +4,17 @@
 --     demand 3   T2, T3, T3-met                                                    the copies lead from an answer to the variable, and no scheme copies less
 use Prim.Native.Nat.{ℕ, _<_, _≤_}
 use mathlib.Core.Path.{_≡_, refl, sym, _∙_, subst}
-use mathlib.Core.Bool.{true}
 use mathlib.Core.List.{List, [], _∷_, map}
 use mathlib.Core.Option.{some}
 use native.Mathlib.Omega.{arith}
 use lib.ListN.{length, getD}
 use Rattle.base.specs.Smallest.{Clear, none, smallest-one}
-use Rattle.lexical.specs.Tree.{Forest, plain}
+use Rattle.lexical.specs.Tree.{Forest}
 use Rattle.lexical.specs.Module.{File, outerOf}
 use Rattle.lexical.specs.Meaning.{Around}
 use Rattle.lexical.specs.Third.{resolved}
 use Rattle.lexical.specs.Records.{records}
-use Rattle.lexical.specs.Claims.{ancestors, sitesOf, told, toldErrors}
+use Rattle.lexical.specs.Claims.{sitesOf, told, toldErrors}
 use Rattle.lexical.specs.Schemes.{Scheme, copiesInto, ours}
 use Rattle.lexical.specs.Theorems as lexical
 use Rattle.nodefile.specs.Layout.{nodeCount, nodesOf}
@@ -28,7 +27,7 @@ use Rattle.scope.specs.Buffers.{Buffers, Front}
 use Rattle.scope.specs.Packed.{pairOf}
 use Rattle.scope.specs.Answer.{Cond, Given, Resolves}
 use Rattle.scope.specs.Ready.{Ready}
-use Rattle.scope.specs.Shown.{nodeFields, copyRecords, Told, NameShown, CapturedShown, Homeward, ServesAll, lists, AllBack}
+use Rattle.scope.specs.Shown.{nodeFields, copyRecords, nodesAround, Told, NameShown, CapturedShown, Homeward, ServesAll, lists, AllBack}
 use Rattle.scope.specs.Laws.Accepts.{judged-tree}
 use Rattle.scope.specs.Laws.Readies.{ready-scoped, ready-distinct, ready-length}
 use Rattle.scope.specs.Laws.Sites.{ident-event}
@@ -96,7 +95,7 @@ module _ {bs : List ℕ} {b b′ : Buffers} {a : Answer} (r : Resolves bs b a b�
     reads-back = back ready few given
 
     -- T2. Every Ident that is answered by a local slot k: `follow::follow`, over the copy records and the scopes around the Ident, leads from k to the slot of the local that the Ident means, in the scope which that belongs to.
-    pub T2 : (x : ℕ) → x < nodeCount bs → kindAt (nodesOf bs) x ≡ 11 → (k i : ℕ) → nodeFields b′ x ≡ 2 ∷ k ∷ i ∷ [] → (up : List Around) → ancestors (F .names) x root plain 0 [] true [] ≡ some up → Homeward a b′ (valueAt (nodesOf bs) x) up k i
+    pub T2 : (x : ℕ) → x < nodeCount bs → kindAt (nodesOf bs) x ≡ 11 → (k i : ℕ) → nodeFields b′ x ≡ 2 ∷ k ∷ i ∷ [] → (up : List Around) → nodesAround F x ≡ some up → Homeward a b′ (valueAt (nodesOf bs) x) up k i
     T2 x h n k i e up q = let p = T1 x h n in let y : p .up ≡ up = let w : some (p .up) ≡ some up = sym (p .above) ∙ q in cc in
         subst (λ (u : List Around). Homeward a b′ (valueAt (nodesOf bs) x) u k i) y (homeward F a b′ (record { node = x; name = valueAt (nodesOf bs) x; above = p .up }) k i e (p .shown))
 
