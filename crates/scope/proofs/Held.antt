@@ -6,7 +6,7 @@ use mathlib.Core.Option.{Option, some}
 use native.Mathlib.Omega.{arith}
 use native.Mathlib.Decide.{decLt}
 use lib.ListN.{length, getElem?}
-use Rattle.base.specs.UpTo.{at-right}
+use Rattle.base.specs.UpTo.{at-right, at-behind}
 use Rattle.lexical.specs.Places.{All, Distinct, at-append, at-left, map-at, map-from}
 use Rattle.lexical.specs.Tree.{nodesIn}
 use Rattle.lexical.specs.Table.{Headed}
@@ -18,7 +18,6 @@ use Rattle.lexical.specs.Records as rec
 use Rattle.lexical.specs.Claims.{Scoped}
 use Rattle.lexical.specs.Code.Numbers.{made-start}
 use Rattle.store.specs.Image.{RowOf, name-row, ident-row, HeldAt, held, none-held}
-use Rattle.target.specs.Alike.{at-behind}
 use Rattle.scope.specs.Packed.{nodeAnswer}
 use Rattle.scope.specs.Laws.Words.{answer-word}
 use Rattle.scope.specs.Laws.Early.{found-early}

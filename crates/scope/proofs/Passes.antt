@@ -1,6 +1,6 @@
 -- The three walks one after the other: what each is handed, and what comes of the last.
 use Prim.Native.Nat.{ℕ, _*_, _<_, _≤_}
-use mathlib.Core.Path.{_≡_, refl, sym, _∙_, subst}
+use mathlib.Core.Path.{_≡_, refl, sym, subst}
 use mathlib.Core.Logic.{inl, inr}
 use mathlib.Core.Bool.{false, true≢false}
 use mathlib.Core.List.{List, [], _∷_}
@@ -153,10 +153,6 @@ module _ {list : List ℕ} {entries : ℕ} {m : Mem} (g : Begun list entries m) 
 
         pub ended : Ended (g .bs) (g .root) c (a .bindings) m₃
         ended = record { over = three-done .over; image = λ f. three-done .rel f .image; first = counted-one (tested (a .full)) }
-
--- the working lists keep their lengths
-pub long-kept : {binds w t binds′ w′ t′ : List ℕ} → Long (mem binds w t) → length binds′ ≡ length binds → length w′ ≡ length w → length t′ ≡ length t → Long (mem binds′ w′ t′)
-long-kept l a b c = record { binds = omega (arith, l .binds); w = b ∙ l .w; t = c ∙ l .t }
 
 abbrev pub begun : {list bs binds w t : List ℕ} {entries : ℕ} (root : Forest) → Ready bs root → list ≡ nodesOf bs → Noted (fileOf bs root) entries binds t → Zeros w → Begun list entries (mem binds w t)
 begun {list} {bs} root q e n z = record { bs = bs; root = root; ready = q; list-is = e; noted = n; blank = z }

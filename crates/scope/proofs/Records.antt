@@ -10,7 +10,7 @@ use native.Mathlib.Decide.{decLt}
 use lib.ListN.{length, getD, getElem?, length-map, length-append}
 use Rattle.base.specs.UpTo.{upTo, upTo-length, upTo-get, at-some}
 use Rattle.lexical.specs.Lists.{eqb-true}
-use Rattle.lexical.specs.Places.{In, at-below, at-append, map-at, first-no}
+use Rattle.lexical.specs.Places.{In, at-below, at-append, map-at, first-no, at-in}
 use Rattle.lexical.specs.Tree.{Forest, scopesIn, paramsIn}
 use Rattle.lexical.specs.Module.{File}
 use Rattle.lexical.specs.State.{Binding}
@@ -31,7 +31,6 @@ use Rattle.store.specs.Rel.{caps}
 use Rattle.store.specs.Laws.Points.{Zeros, word-at}
 use Rattle.target.specs.Alike.{map-like}
 use Rattle.collect.specs.Declare.{counted}
-use Rattle.scope.specs.Laws.Lists.{at-in}
 use Rattle.scope.specs.Buffers.{Front}
 use Rattle.scope.specs.Packed.{bindingOf, entryOf, entryFrom, pairOf, copyOf, nodeAnswer}
 use Rattle.scope.specs.Filled.{Filled}

@@ -6,7 +6,6 @@ use mathlib.Core.Option.{some}
 use native.Mathlib.Omega.{arith}
 use native.Mathlib.Nat.{zero-add}
 use lib.ListN.{length, getElem?, set}
-pub use Rattle.base.specs.UpTo.{at-behind}
 use Rattle.store.specs.Laws.Points.{Replaced}
 
 module _ {A : Type 0} where

@@ -9,11 +9,11 @@ use native.Mathlib.Omega.{arith}
 use lib.ListN.{length, getElem?, length-drop}
 use Rattle.base.specs.UpTo.{upTo-at}
 use Rattle.lexical.specs.Lists.{none-some}
-use Rattle.lexical.specs.Places.{In, Distinct, in-left, in-right}
+use Rattle.lexical.specs.Places.{In, Distinct, in-left, in-right, at-in}
 use Rattle.lexical.specs.Tree.{Forest, nil, node, isFn, way, when, listed, nodesIn, scopesIn}
-use Rattle.lexical.specs.Table.{one, opt, many, row, within, headIn, dropOne, dropMany, isEmpty, matches, allowed, kinds}
+use Rattle.lexical.specs.Table.{one, opt, many, row, within, headIn, dropOne, dropMany, matches, allowed, kinds}
 use Rattle.lexical.specs.Proof.Slots.{both-true}
-use Rattle.lexical.specs.Proof.Tabled.{in-range}
+use Rattle.lexical.specs.Proof.Tabled.{in-range, table-name, table-ident, at-kind}
 use Rattle.nodefile.specs.Layout.{nameCount, entryCount, globalCount, nodesOf, entriesOf, globalsOf}
 use Rattle.nodefile.specs.Lists.{entryName, globalName}
 use Rattle.nodefile.specs.Node.{sizeOf}
@@ -26,26 +26,12 @@ use Rattle.judge.specs.Cond.{Judged}
 use Rattle.judge.specs.Lists.{entryNames, globalNames}
 use Rattle.judge.specs.Accepted.{NodeOk, Each, Accepted}
 use Rattle.judge.specs.Theorems.{accepted, accepted-tabled}
-use Rattle.scope.specs.Laws.Lists.{at-in}
 use Rattle.scope.specs.Ready.{Ready}
 
 -- ---- what the table says of children
 
 false-true : {P : Type 0} → false ≡ true → P
 false-true e = absurd (let z : _≡_ {A = ℕ} 0 1 = cc in omega arith)
-
-no-kids : (f : Forest) → isEmpty (kinds f) ≡ true → f ≡ nil
-unfolding kinds isEmpty
-no-kids nil e = refl
-no-kids (node at k v kids rest) e = false-true e
-
-table-name : (f : Forest) → allowed 8 (kinds f) ≡ true → f ≡ nil
-unfolding allowed row matches
-table-name f e = no-kids f e
-
-table-ident : (f : Forest) → allowed 11 (kinds f) ≡ true → f ≡ nil
-unfolding allowed row matches
-table-ident f e = no-kids f e
 
 body : (f : Forest) → matches (many 17 17 ∷ opt 18 18 ∷ one 0 7 ∷ []) (kinds f) ≡ true → Some f
 unfolding matches kinds headIn dropOne dropMany Some
@@ -71,9 +57,6 @@ table-clause : (f : Forest) → allowed 15 (kinds f) ≡ true → Some f
 unfolding allowed row matches kinds headIn dropOne dropMany Some
 table-clause nil e = false-true e
 table-clause (node at k v kids rest) e = tt
-
-at-kind : (k n : ℕ) (f : Forest) → allowed k (kinds f) ≡ true → k ≡ n → allowed n (kinds f) ≡ true
-at-kind k n f e q = rw (← q) e
 
 -- ---- node by node
 

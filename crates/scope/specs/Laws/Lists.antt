@@ -1,6 +1,6 @@
 -- Elements of lists by a number that they have, and lists of rows that are made element by element.
 --     times-at, found-at, first-once   an element that has a number; the first that has it, where one alone has it
---     at-in, times-in, in-times        a number in a list
+--     times-in, in-times               a number in a list
 --     row-in, row-from                 rows, of which each element gives one or none
 use Prim.Native.Nat.{ℕ, zero, suc, _+_, _≤_}
 use mathlib.Core.Path.{_≡_, refl, sym, ap, _∙_}
@@ -11,10 +11,10 @@ use mathlib.Core.Option.{some}
 use native.Mathlib.Omega.{arith}
 use lib.Dec.{eqb}
 use lib.ListN.{length, getElem?}
+use Rattle.base.specs.UpTo.{at-behind}
 use Rattle.lexical.specs.Lists.{first, none-some, eqb-self, eqb-true, Tested, was, wasnt, tested}
 use Rattle.lexical.specs.Places.{In}
 use Rattle.lexical.specs.Sums.{total, one, times}
-use Rattle.target.specs.Alike.{at-behind}
 
 module _ {A : Type 0} (f : A → ℕ) where
   pub times-at : (i : ℕ) (xs : List A) (j : ℕ) (a : A) → getElem? xs j ≡ some a → f a ≡ i → 1 ≤ times i (map f xs)
@@ -42,11 +42,6 @@ module _ {A : Type 0} (f : A → ℕ) where
       go (was t) (suc j) z r = absurd (let u : eqb i (f x) ≡ true = rw (eqb-true (f x) i t) (eqb-self i) in let v : one i (f x) ≡ 1 = rw u refl in omega (arith, h, times-at i xs j a z q))
       go (wasnt t) zero z r = absurd (let y : x ≡ a = cc in let u : eqb (f x) i ≡ true = rw (y, q) (eqb-self i) in let v : _≡_ {A = ℕ} 0 1 = cc in omega arith)
       go (wasnt t) (suc j) z r = rw t (r j z)
-
-pub at-in : (xs : List ℕ) (k x : ℕ) → getElem? xs k ≡ some x → In x xs
-at-in [] k x e = absurd (none-some refl e)
-at-in (y ∷ xs) zero x e = let z : y ≡ x = cc in inl (sym z)
-at-in (y ∷ xs) (suc k) x e = inr (at-in xs k x e)
 
 pub times-in : (x : ℕ) (xs : List ℕ) → In x xs → 1 ≤ times x xs
 unfolding total one

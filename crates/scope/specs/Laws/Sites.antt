@@ -8,6 +8,7 @@ use mathlib.Core.List.{List, [], _∷_, _++_}
 use mathlib.Core.Option.{some}
 use native.Mathlib.Omega.{arith}
 use lib.ListN.{length, getElem?}
+use Rattle.base.specs.UpTo.{at-behind}
 use Rattle.lexical.specs.Lists.{none-some, either}
 use Rattle.lexical.specs.Places.{In, at-append}
 use Rattle.lexical.specs.Tree.{Forest, nil, node, Way, plain, isLook, way, empty, when, turn, Turn, inOrder, inside, opening, behind, identsIn}
@@ -23,7 +24,6 @@ use Rattle.lexical.specs.Proof.Outcome.{site-of, node-of, name-of}
 use Rattle.nodefile.specs.Reads.{Reads}
 use Rattle.nodefile.specs.Order.{Spot, spotsIn, spot-at}
 use Rattle.nodefile.specs.Listed.{kindAt, valueAt, in-listed, nodes-distinct}
-use Rattle.target.specs.Alike.{at-behind}
 use Rattle.scope.specs.Laws.Lists.{times-in, found-at}
 
 -- ---- somewhere in a list

@@ -9,6 +9,7 @@ use mathlib.Core.List.{List, [], _∷_}
 use mathlib.Core.Option.{some}
 use lib.Dec.{eqb}
 use lib.ListN.{length, getElem?}
+use Rattle.base.specs.UpTo.{at-behind}
 use Rattle.lexical.specs.Lists.{either}
 use Rattle.lexical.specs.Places.{All, all-none, all-cons, all-append, at-append}
 use Rattle.lexical.specs.Tree.{Forest, nil, node, after, Pick, through, shut, head, name, loop, load, param, pick}
@@ -16,7 +17,6 @@ use Rattle.lexical.specs.Table.{FirstName, Headed}
 use Rattle.lexical.specs.Binders.{Names, Marks, Target, Var, target, headTarget, gather, collect, unmarked, looping, targets, newVar, again, note, merge}
 use Rattle.lexical.specs.Proof.Kinds.{Simple, Sort, def6, name8, ident11, lambda12, compr13, other14, clause15, type18, simple, past, sort}
 use Rattle.nodefile.specs.Order.{Spot, spotsIn}
-use Rattle.target.specs.Alike.{at-behind}
 
 -- of a name and of the node that has it
 unfoldable pub Each : (ℕ → ℕ → Type 0) → Forest → Type 0

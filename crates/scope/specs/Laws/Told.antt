@@ -7,6 +7,7 @@ use mathlib.Core.List.{List, [], _∷_, map}
 use mathlib.Core.Option.{some}
 use native.Mathlib.Omega.{arith}
 use lib.ListN.{length, getElem?}
+use Rattle.base.specs.UpTo.{at-behind}
 use Rattle.bits.specs.Pack.{unpack}
 use Rattle.lexical.specs.Places.{at-below}
 use Rattle.lexical.specs.Tree.{Forest}
@@ -19,7 +20,6 @@ use Rattle.lexical.specs.Proof.Outcome.{outcome, node-of, means-local}
 use Rattle.lexical.specs.Proof.Last.{last}
 use Rattle.nodefile.specs.Layout.{nodeCount}
 use Rattle.nodefile.specs.FileOf.{fileOf}
-use Rattle.target.specs.Alike.{at-behind}
 use Rattle.follow.specs.Place.{placeOf}
 use Rattle.scope.specs.declared.Answer.{Answer}
 use Rattle.scope.specs.Buffers.{Buffers}
