@@ -28,7 +28,7 @@ owned-append [] env ss h o j x e = o j x e
 owned-append (b ∷ bs) env ss h o zero x e = h 0 x e
 owned-append (b ∷ bs) env ss h o (suc j) x e = owned-append bs env ss (λ i y q. h (suc i) y q) o j x e
 
-name-some : (f : Forest) → NameFirst f → Some f
+pub name-some : (f : Forest) → NameFirst f → Some f
 unfolding NameFirst Some
 name-some nil h = h
 name-some (node a k v kids rest) h = tt

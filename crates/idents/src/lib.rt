@@ -26,7 +26,7 @@ fn last(part: &[u8]) -> usize
     i
 }
 
-// The nodes of a part, one after the other.
+// The nodes of a part, one after the other. One without children is not handed on: an Ident is looked up here, any other comes to nothing.
 fn each(
     part: &[u8],
     at: usize,
@@ -45,9 +45,16 @@ fn each(
     while i < part.len() {
         let k = nodefile::size(&part[i..]) as usize;
         let e = i + 8 * k;
-        s = resolve_node(&part[i..e], n, ty, s, binds, w, t);
+        let here = &part[i..e];
+        let at_here = n;
         n += k;
         i = e;
+        if k > 1 {
+            s = resolve_node(here, at_here, ty, s, binds, w, t);
+        } else if nodefile::kind(here) == 11 {
+            let name = nodefile::value(here) as usize;
+            s = lookup::resolve_ident(name, at_here, ty, s, binds, w, t);
+        }
     }
     s
 }
