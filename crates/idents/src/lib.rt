@@ -26,7 +26,8 @@ fn last(part: &[u8]) -> usize
     i
 }
 
-// The nodes of a part, one after the other. One without children is not handed on: an Ident is looked up here, any other comes to nothing.
+// The nodes of a part, one after the other. An Other is passed over: its children come next. Of the rest one without children is not
+// handed on: an Ident is looked up here, any other comes to nothing.
 fn each(
     part: &[u8],
     at: usize,
@@ -47,13 +48,19 @@ fn each(
         let e = i + 8 * k;
         let here = &part[i..e];
         let at_here = n;
-        n += k;
-        i = e;
-        if k > 1 {
-            s = resolve_node(here, at_here, ty, s, binds, w, t);
-        } else if nodefile::kind(here) == 11 {
-            let name = nodefile::value(here) as usize;
-            s = lookup::resolve_ident(name, at_here, ty, s, binds, w, t);
+        let kind = nodefile::kind(here);
+        if kind == 14 {
+            n += 1;
+            i += 8;
+        } else {
+            n += k;
+            i = e;
+            if k > 1 {
+                s = resolve_node(here, at_here, ty, s, binds, w, t);
+            } else if kind == 11 {
+                let name = nodefile::value(here) as usize;
+                s = lookup::resolve_ident(name, at_here, ty, s, binds, w, t);
+            }
         }
     }
     s

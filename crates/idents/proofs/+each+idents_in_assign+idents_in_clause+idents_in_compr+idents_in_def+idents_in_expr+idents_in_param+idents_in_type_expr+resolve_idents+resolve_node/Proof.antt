@@ -4,10 +4,10 @@ use native.Mathlib.Omega.{arith}
 use mathlib.Core.Path.{refl, sym, ap, _∙_}
 use mathlib.Core.Logic.{inl, inr}
 use Prim.Native.Nat.{ℕ, _+_, _-_, _*_, _<_}
-use lib.ListN.{length}
+use lib.ListN.{length, drop}
 use Rattle.store.specs.Sections.{mem}
-use Rattle.collect.specs.Parts.{size-from}
-use Rattle.idents.proofs.Steps.{Mid, kind-is, k-start, k-end, k-node, k-length, k-pre, k-more, any-done, x-long, x-kind, x-kids-length, x-kids-pre, x-others, x-type, x-ident-pre, x-ident}
+use Rattle.collect.specs.Parts.{kind-take, size-from}
+use Rattle.idents.proofs.Steps.{Mid, kind-is, k-start, k-end, k-node, k-length, k-pre, k-more, k-into, any-done, x-long, x-kind, x-kids-length, x-kids-pre, x-others, x-type, x-ident-pre, x-ident}
 use Rattle.idents.proofs.Cuts.{for-clause, clause-some, f-inside, f-front-length, f-back-length, c-rest-pre, c-first-pre, c-done}
 use Rattle.idents.proofs.Functions.{d-last-pre, d-inside, d-front-length, d-back-length, d-front-pre, d-enter-pre, d-body-pre, d-leave-pre, d-done}
 use Rattle.idents.proofs.Leaves.{x-leaf}
@@ -239,7 +239,7 @@ abbrev each-μ-loop : each-lts.MeasureT-loop
 each-μ-loop part at ty binds₀ w₀ t₀ s₀ n₀ i₀ binds w t s n i = length part - i
 
 abbrev each-calls : ℕ → each-lts.Claims
-each-calls t = (size-reads.Asked, size-reads.Learnt, resolve-node-below t, resolve-node.Post, kind-reads.Asked, kind-reads.Learnt, value-reads.Asked, value-reads.Learnt, resolve-ident-reads.Asked, resolve-ident-reads.Learnt)
+each-calls t = (size-reads.Asked, size-reads.Learnt, kind-reads.Asked, kind-reads.Learnt, resolve-node-below t, resolve-node.Post, value-reads.Asked, value-reads.Learnt, resolve-ident-reads.Asked, resolve-ident-reads.Learnt)
 
 abbrev idents-in-assign-calls : ℕ → idents-in-assign-lts.Claims
 idents-in-assign-calls t = (each-below t, each.Post)
@@ -298,50 +298,65 @@ each-part-here-start t c = let f = k-node ((c .before .before .before .loop) .in
 each-part-here-end : (t : ℕ) → each-lts.Need-part-here-end (each-calls t) (each-at t) each.Post each-Inv-loop each-μ-loop
 each-part-here-end t c = let f = k-node ((c .before .before .before .loop) .inv) ((c .before .before .loop-test) .taken) ((c .before .before .before .before .before .before .before .before .pre) .1 .ghost) in let e = ((c .size) .ensures .is ∙ size-from ((c .before .before .before .before .before .before .before .before .args) .part .now) ((c .before .before .before .loop) .i)) in omega (arith, (c .before .before .before .before .before .before .before .before .pre) .1 .within)
 
-each-add-n : (t : ℕ) → each-lts.Need-add-n (each-calls t) (each-at t) each.Post each-Inv-loop each-μ-loop
-each-add-n t c = let f = k-node ((c .before .before .before .before .loop) .inv) ((c .before .before .before .loop-test) .taken) ((c .before .before .before .before .before .before .before .before .before .pre) .1 .ghost) in let e = ((c .before .size) .ensures .is ∙ size-from ((c .before .before .before .before .before .before .before .before .before .args) .part .now) ((c .before .before .before .before .loop) .i)) in omega (arith, (c .before .before .before .before .before .before .before .before .before .pre) .1 .within, (c .before .before .before .before .loop) .inv .number)
+each-kind-requires : (t : ℕ) → each-lts.Need-kind-requires (each-calls t) (each-at t) each.Post each-Inv-loop each-μ-loop
+each-kind-requires t c κs = search needs
 
-each-resolve-node-requires : (t : ℕ) → each-lts.Need-resolve-node-requires (each-calls t) (each-at t) each.Post each-Inv-loop each-μ-loop
-each-resolve-node-requires t c κs =
-    let e = ((c .before .before .before .before .before .size) .ensures .is ∙ size-from ((c .before .before .before .before .before .before .before .before .before .before .before .before .before .args) .part .now) ((c .before .before .before .before .before .before .before .before .loop) .i)) in
-    let f = k-node ((c .before .before .before .before .before .before .before .before .loop) .inv) ((c .before .before .before .before .before .before .before .loop-test) .taken) ((c .before .before .before .before .before .before .before .before .before .before .before .before .before .pre) .1 .ghost) in
-    let w = k-length ((c .before .before .before .before .before .before .before .before .loop) .inv) ((c .before .before .before .before .before .before .before .loop-test) .taken) ((c .before .before .before .before .before .size) .result) e ((c .before .before .before .before .before .before .before .before .before .before .before .before .before .pre) .1 .ghost) in
-    (omega (arith, (c .before .before .before .before .before .before .before .before .before .before .before .before .before .pre) .0), k-pre ((c .before .before .before .before .before .before .before .before .loop) .inv) ((c .before .before .before .before .before .before .before .loop-test) .taken) ((c .before .before .before .before .before .size) .result) e ((c .before .before .before .before .before .before .before .before .before .before .before .before .before .pre) .1 .within) ((c .before .before .before .before .before .before .before .before .before .before .before .before .before .pre) .1 .ghost))
+each-add-n : (t : ℕ) → each-lts.Need-add-n (each-calls t) (each-at t) each.Post each-Inv-loop each-μ-loop
+each-add-n t c = let f = k-node ((c .before .before .before .before .before .before .loop) .inv) ((c .before .before .before .before .before .loop-test) .taken) ((c .before .before .before .before .before .before .before .before .before .before .before .pre) .1 .ghost) in let e = ((c .before .before .before .size) .ensures .is ∙ size-from ((c .before .before .before .before .before .before .before .before .before .before .before .args) .part .now) ((c .before .before .before .before .before .before .loop) .i)) in omega (arith, (c .before .before .before .before .before .before .before .before .before .before .before .pre) .1 .within, (c .before .before .before .before .before .before .loop) .inv .number)
+
+each-add-i : (t : ℕ) → each-lts.Need-add-i (each-calls t) (each-at t) each.Post each-Inv-loop each-μ-loop
+each-add-i t c = let f = k-node ((c .before .before .before .before .before .before .loop) .inv) ((c .before .before .before .before .before .loop-test) .taken) ((c .before .before .before .before .before .before .before .before .before .before .before .pre) .1 .ghost) in let e = ((c .before .before .before .size) .ensures .is ∙ size-from ((c .before .before .before .before .before .before .before .before .before .before .before .args) .part .now) ((c .before .before .before .before .before .before .loop) .i)) in omega (arith, (c .before .before .before .before .before .before .before .before .before .before .before .pre) .1 .within, (c .before .before .before .before .before .before .loop) .inv .number)
 
 each-loop-less : (t : ℕ) → each-lts.Need-loop-less (each-calls t) (each-at t) each.Post each-Inv-loop each-μ-loop
-each-loop-less t c = let f = k-node ((c .before .before .before .before .before .before .before .before .before .before .before .before .before .before .before .loop) .inv) ((c .before .before .before .before .before .before .before .before .before .before .before .before .before .before .loop-test) .taken) ((c .before .before .before .before .before .before .before .before .before .before .before .before .before .before .before .before .before .before .before .before .pre) .1 .ghost) in let e = ((c .before .before .before .before .before .before .before .before .before .before .before .before .size) .ensures .is ∙ size-from ((c .before .before .before .before .before .before .before .before .before .before .before .before .before .before .before .before .before .before .before .before .args) .part .now) ((c .before .before .before .before .before .before .before .before .before .before .before .before .before .before .before .loop) .i)) in omega (arith, (c .before .before .before .before .before .before .before .before .before .before .before .before .before .before .before .before .before .before .before .before .pre) .1 .within, (c .before .before .before .before .before .before .before .before .before .before .before .before .before .before .before .loop) .inv .number)
+each-loop-less t c = let f = k-node ((c .before .before .before .before .before .before .loop) .inv) ((c .before .before .before .before .before .loop-test) .taken) ((c .before .before .before .before .before .before .before .before .before .before .before .pre) .1 .ghost) in let e = ((c .before .before .before .size) .ensures .is ∙ size-from ((c .before .before .before .before .before .before .before .before .before .before .before .args) .part .now) ((c .before .before .before .before .before .before .loop) .i)) in omega (arith, (c .before .before .before .before .before .before .before .before .before .before .before .pre) .1 .within, (c .before .before .before .before .before .before .loop) .inv .number)
 
 each-loop-again : (t : ℕ) → each-lts.Need-loop-again (each-calls t) (each-at t) each.Post each-Inv-loop each-μ-loop
 each-loop-again t c =
-    let e = ((c .before .before .before .before .before .before .before .before .before .before .before .before .size) .ensures .is ∙ size-from ((c .before .before .before .before .before .before .before .before .before .before .before .before .before .before .before .before .before .before .before .before .args) .part .now) ((c .before .before .before .before .before .before .before .before .before .before .before .before .before .before .before .loop) .i)) in
-    k-more ((c .before .before .before .before .before .before .before .before .before .before .before .before .before .before .before .loop) .inv) ((c .before .before .before .before .before .before .before .before .before .before .before .before .before .before .loop-test) .taken) ((c .before .before .before .before .before .before .before .before .before .before .before .before .size) .result) e ((c .before .before .before .before .before .before .before .before .before .before .before .before .before .before .before .before .before .before .before .before .pre) .1 .ghost) ((c .before .before .before .before .before .before .resolve-node) .ensures) (record { binds = (c .before .before .before .before .before .before .resolve-node) .kept .1 .1 .1 .1 .0; w = (c .before .before .before .before .before .before .resolve-node) .kept .1 .1 .1 .1 .1 .0; t = (c .before .before .before .before .before .before .resolve-node) .kept .1 .1 .1 .1 .1 .1 .0 })
+    let f = k-node ((c .before .before .before .before .before .before .loop) .inv) ((c .before .before .before .before .before .loop-test) .taken) ((c .before .before .before .before .before .before .before .before .before .before .before .pre) .1 .ghost) in
+    let e = ((c .before .before .before .size) .ensures .is ∙ size-from ((c .before .before .before .before .before .before .before .before .before .before .before .args) .part .now) ((c .before .before .before .before .before .before .loop) .i)) in
+    k-into ((c .before .before .before .before .before .before .loop) .inv) ((c .before .before .before .before .before .loop-test) .taken) (sym (kind-take (drop ((c .before .before .before .before .before .before .loop) .i) ((c .before .before .before .before .before .before .before .before .before .before .before .args) .part .now)) ((c .before .before .before .before .before .before .loop) .i + 8 * (c .before .before .before .size) .result - (c .before .before .before .before .before .before .loop) .i) (omega (arith, e, f .some))) ∙ sym ((c .before .kind) .ensures .is) ∙ (c .if1) .taken) ((c .before .before .before .before .before .before .before .before .before .before .before .pre) .1 .ghost)
 
-each-kind-requires : (t : ℕ) → each-lts.Need-kind-requires (each-calls t) (each-at t) each.Post each-Inv-loop each-μ-loop
-each-kind-requires t c κs = search needs
+each-add-n-2 : (t : ℕ) → each-lts.Need-add-n-2 (each-calls t) (each-at t) each.Post each-Inv-loop each-μ-loop
+each-add-n-2 t c = let f = k-node ((c .before .before .before .before .before .before .loop) .inv) ((c .before .before .before .before .before .loop-test) .taken) ((c .before .before .before .before .before .before .before .before .before .before .before .pre) .1 .ghost) in let e = ((c .before .before .before .size) .ensures .is ∙ size-from ((c .before .before .before .before .before .before .before .before .before .before .before .args) .part .now) ((c .before .before .before .before .before .before .loop) .i)) in omega (arith, (c .before .before .before .before .before .before .before .before .before .before .before .pre) .1 .within, (c .before .before .before .before .before .before .loop) .inv .number)
+
+each-resolve-node-requires : (t : ℕ) → each-lts.Need-resolve-node-requires (each-calls t) (each-at t) each.Post each-Inv-loop each-μ-loop
+each-resolve-node-requires t c κs =
+    let e = ((c .before .before .before .before .before .before .before .size) .ensures .is ∙ size-from ((c .before .before .before .before .before .before .before .before .before .before .before .before .before .before .before .args) .part .now) ((c .before .before .before .before .before .before .before .before .before .before .loop) .i)) in
+    let f = k-node ((c .before .before .before .before .before .before .before .before .before .before .loop) .inv) ((c .before .before .before .before .before .before .before .before .before .loop-test) .taken) ((c .before .before .before .before .before .before .before .before .before .before .before .before .before .before .before .pre) .1 .ghost) in
+    let w = k-length ((c .before .before .before .before .before .before .before .before .before .before .loop) .inv) ((c .before .before .before .before .before .before .before .before .before .loop-test) .taken) ((c .before .before .before .before .before .before .before .size) .result) e ((c .before .before .before .before .before .before .before .before .before .before .before .before .before .before .before .pre) .1 .ghost) in
+    (omega (arith, (c .before .before .before .before .before .before .before .before .before .before .before .before .before .before .before .pre) .0), k-pre ((c .before .before .before .before .before .before .before .before .before .before .loop) .inv) ((c .before .before .before .before .before .before .before .before .before .loop-test) .taken) ((c .before .before .before .before .before .before .before .size) .result) e ((c .before .before .before .before .before .before .before .before .before .before .before .before .before .before .before .pre) .1 .within) ((c .before .before .before .before .before .before .before .before .before .before .before .before .before .before .before .pre) .1 .ghost))
+
+each-loop-less-2 : (t : ℕ) → each-lts.Need-loop-less-2 (each-calls t) (each-at t) each.Post each-Inv-loop each-μ-loop
+each-loop-less-2 t c = let f = k-node ((c .before .before .before .before .before .before .before .before .before .before .before .before .before .before .before .before .before .loop) .inv) ((c .before .before .before .before .before .before .before .before .before .before .before .before .before .before .before .before .loop-test) .taken) ((c .before .before .before .before .before .before .before .before .before .before .before .before .before .before .before .before .before .before .before .before .before .before .pre) .1 .ghost) in let e = ((c .before .before .before .before .before .before .before .before .before .before .before .before .before .before .size) .ensures .is ∙ size-from ((c .before .before .before .before .before .before .before .before .before .before .before .before .before .before .before .before .before .before .before .before .before .before .args) .part .now) ((c .before .before .before .before .before .before .before .before .before .before .before .before .before .before .before .before .before .loop) .i)) in omega (arith, (c .before .before .before .before .before .before .before .before .before .before .before .before .before .before .before .before .before .before .before .before .before .before .pre) .1 .within, (c .before .before .before .before .before .before .before .before .before .before .before .before .before .before .before .before .before .loop) .inv .number)
+
+each-loop-again-2 : (t : ℕ) → each-lts.Need-loop-again-2 (each-calls t) (each-at t) each.Post each-Inv-loop each-μ-loop
+each-loop-again-2 t c =
+    let e = ((c .before .before .before .before .before .before .before .before .before .before .before .before .before .before .size) .ensures .is ∙ size-from ((c .before .before .before .before .before .before .before .before .before .before .before .before .before .before .before .before .before .before .before .before .before .before .args) .part .now) ((c .before .before .before .before .before .before .before .before .before .before .before .before .before .before .before .before .before .loop) .i)) in
+    k-more ((c .before .before .before .before .before .before .before .before .before .before .before .before .before .before .before .before .before .loop) .inv) ((c .before .before .before .before .before .before .before .before .before .before .before .before .before .before .before .before .loop-test) .taken) ((c .before .before .before .before .before .before .before .before .before .before .before .before .before .before .size) .result) e ((c .before .before .before .before .before .before .before .before .before .before .before .before .before .before .before .before .before .before .before .before .before .before .pre) .1 .ghost) ((c .before .before .before .before .before .before .resolve-node) .ensures) (record { binds = (c .before .before .before .before .before .before .resolve-node) .kept .1 .1 .1 .1 .0; w = (c .before .before .before .before .before .before .resolve-node) .kept .1 .1 .1 .1 .1 .0; t = (c .before .before .before .before .before .before .resolve-node) .kept .1 .1 .1 .1 .1 .1 .0 })
 
 each-value-requires : (t : ℕ) → each-lts.Need-value-requires (each-calls t) (each-at t) each.Post each-Inv-loop each-μ-loop
 each-value-requires t c κs = search needs
 
 each-resolve-ident-requires : (t : ℕ) → each-lts.Need-resolve-ident-requires (each-calls t) (each-at t) each.Post each-Inv-loop each-μ-loop
 each-resolve-ident-requires t c κs =
-    let e = ((c .before .before .before .before .before .before .before .before .size) .ensures .is ∙ size-from ((c .before .before .before .before .before .before .before .before .before .before .before .before .before .before .before .before .args) .part .now) ((c .before .before .before .before .before .before .before .before .before .before .before .loop) .i)) in
-    x-ident-pre (k-pre ((c .before .before .before .before .before .before .before .before .before .before .before .loop) .inv) ((c .before .before .before .before .before .before .before .before .before .before .loop-test) .taken) ((c .before .before .before .before .before .before .before .before .size) .result) e ((c .before .before .before .before .before .before .before .before .before .before .before .before .before .before .before .before .pre) .1 .within) ((c .before .before .before .before .before .before .before .before .before .before .before .before .before .before .before .before .pre) .1 .ghost)) ((c .before .before .before .value) .result) ((c .before .before .before .value) .ensures .is) (sym ((c .before .before .before .before .before .kind) .ensures .is) ∙ (c .before .before .before .before .if2) .taken)
-
-each-loop-less-2 : (t : ℕ) → each-lts.Need-loop-less-2 (each-calls t) (each-at t) each.Post each-Inv-loop each-μ-loop
-each-loop-less-2 t c = let f = k-node ((c .before .before .before .before .before .before .before .before .before .before .before .before .before .before .before .before .before .before .loop) .inv) ((c .before .before .before .before .before .before .before .before .before .before .before .before .before .before .before .before .before .loop-test) .taken) ((c .before .before .before .before .before .before .before .before .before .before .before .before .before .before .before .before .before .before .before .before .before .before .before .pre) .1 .ghost) in let e = ((c .before .before .before .before .before .before .before .before .before .before .before .before .before .before .before .size) .ensures .is ∙ size-from ((c .before .before .before .before .before .before .before .before .before .before .before .before .before .before .before .before .before .before .before .before .before .before .before .args) .part .now) ((c .before .before .before .before .before .before .before .before .before .before .before .before .before .before .before .before .before .before .loop) .i)) in omega (arith, (c .before .before .before .before .before .before .before .before .before .before .before .before .before .before .before .before .before .before .before .before .before .before .before .pre) .1 .within, (c .before .before .before .before .before .before .before .before .before .before .before .before .before .before .before .before .before .before .loop) .inv .number)
-
-each-loop-again-2 : (t : ℕ) → each-lts.Need-loop-again-2 (each-calls t) (each-at t) each.Post each-Inv-loop each-μ-loop
-each-loop-again-2 t c =
-    let e = ((c .before .before .before .before .before .before .before .before .before .before .before .before .before .before .before .size) .ensures .is ∙ size-from ((c .before .before .before .before .before .before .before .before .before .before .before .before .before .before .before .before .before .before .before .before .before .before .before .args) .part .now) ((c .before .before .before .before .before .before .before .before .before .before .before .before .before .before .before .before .before .before .loop) .i)) in
-    k-more ((c .before .before .before .before .before .before .before .before .before .before .before .before .before .before .before .before .before .before .loop) .inv) ((c .before .before .before .before .before .before .before .before .before .before .before .before .before .before .before .before .before .loop-test) .taken) ((c .before .before .before .before .before .before .before .before .before .before .before .before .before .before .before .size) .result) e ((c .before .before .before .before .before .before .before .before .before .before .before .before .before .before .before .before .before .before .before .before .before .before .before .pre) .1 .ghost) (x-ident (k-pre ((c .before .before .before .before .before .before .before .before .before .before .before .before .before .before .before .before .before .before .loop) .inv) ((c .before .before .before .before .before .before .before .before .before .before .before .before .before .before .before .before .before .loop-test) .taken) ((c .before .before .before .before .before .before .before .before .before .before .before .before .before .before .before .size) .result) e ((c .before .before .before .before .before .before .before .before .before .before .before .before .before .before .before .before .before .before .before .before .before .before .before .pre) .1 .within) ((c .before .before .before .before .before .before .before .before .before .before .before .before .before .before .before .before .before .before .before .before .before .before .before .pre) .1 .ghost)) ((c .before .before .before .before .before .before .before .before .before .before .value) .result) ((c .before .before .before .before .before .before .before .before .before .before .value) .ensures .is) (sym ((c .before .before .before .before .before .before .before .before .before .before .before .before .kind) .ensures .is) ∙ (c .before .before .before .before .before .before .before .before .before .before .before .if2) .taken) ((c .before .before .before .before .before .before .resolve-ident) .ensures)) (record { binds = (c .before .before .before .before .before .before .resolve-ident) .kept .1 .1 .1 .1 .0; w = (c .before .before .before .before .before .before .resolve-ident) .kept .1 .1 .1 .1 .1 .0; t = (c .before .before .before .before .before .before .resolve-ident) .kept .1 .1 .1 .1 .1 .1 .0 })
+    let e = ((c .before .before .before .before .before .before .before .before .before .size) .ensures .is ∙ size-from ((c .before .before .before .before .before .before .before .before .before .before .before .before .before .before .before .before .before .args) .part .now) ((c .before .before .before .before .before .before .before .before .before .before .before .before .loop) .i)) in
+    x-ident-pre (k-pre ((c .before .before .before .before .before .before .before .before .before .before .before .before .loop) .inv) ((c .before .before .before .before .before .before .before .before .before .before .before .loop-test) .taken) ((c .before .before .before .before .before .before .before .before .before .size) .result) e ((c .before .before .before .before .before .before .before .before .before .before .before .before .before .before .before .before .before .pre) .1 .within) ((c .before .before .before .before .before .before .before .before .before .before .before .before .before .before .before .before .before .pre) .1 .ghost)) ((c .before .before .before .value) .result) ((c .before .before .before .value) .ensures .is) (sym ((c .before .before .before .before .before .before .before .kind) .ensures .is) ∙ (c .before .before .before .before .if3) .taken)
 
 each-loop-less-3 : (t : ℕ) → each-lts.Need-loop-less-3 (each-calls t) (each-at t) each.Post each-Inv-loop each-μ-loop
-each-loop-less-3 t c = let f = k-node ((c .before .before .before .before .before .before .before .loop) .inv) ((c .before .before .before .before .before .before .loop-test) .taken) ((c .before .before .before .before .before .before .before .before .before .before .before .before .pre) .1 .ghost) in let e = ((c .before .before .before .before .size) .ensures .is ∙ size-from ((c .before .before .before .before .before .before .before .before .before .before .before .before .args) .part .now) ((c .before .before .before .before .before .before .before .loop) .i)) in omega (arith, (c .before .before .before .before .before .before .before .before .before .before .before .before .pre) .1 .within, (c .before .before .before .before .before .before .before .loop) .inv .number)
+each-loop-less-3 t c = let f = k-node ((c .before .before .before .before .before .before .before .before .before .before .before .before .before .before .before .before .before .before .before .loop) .inv) ((c .before .before .before .before .before .before .before .before .before .before .before .before .before .before .before .before .before .before .loop-test) .taken) ((c .before .before .before .before .before .before .before .before .before .before .before .before .before .before .before .before .before .before .before .before .before .before .before .before .pre) .1 .ghost) in let e = ((c .before .before .before .before .before .before .before .before .before .before .before .before .before .before .before .before .size) .ensures .is ∙ size-from ((c .before .before .before .before .before .before .before .before .before .before .before .before .before .before .before .before .before .before .before .before .before .before .before .before .args) .part .now) ((c .before .before .before .before .before .before .before .before .before .before .before .before .before .before .before .before .before .before .before .loop) .i)) in omega (arith, (c .before .before .before .before .before .before .before .before .before .before .before .before .before .before .before .before .before .before .before .before .before .before .before .before .pre) .1 .within, (c .before .before .before .before .before .before .before .before .before .before .before .before .before .before .before .before .before .before .before .loop) .inv .number)
 
 each-loop-again-3 : (t : ℕ) → each-lts.Need-loop-again-3 (each-calls t) (each-at t) each.Post each-Inv-loop each-μ-loop
 each-loop-again-3 t c =
-    let e = ((c .before .before .before .before .size) .ensures .is ∙ size-from ((c .before .before .before .before .before .before .before .before .before .before .before .before .args) .part .now) ((c .before .before .before .before .before .before .before .loop) .i)) in
-    k-more ((c .before .before .before .before .before .before .before .loop) .inv) ((c .before .before .before .before .before .before .loop-test) .taken) ((c .before .before .before .before .size) .result) e ((c .before .before .before .before .before .before .before .before .before .before .before .before .pre) .1 .ghost) (x-leaf (k-pre ((c .before .before .before .before .before .before .before .loop) .inv) ((c .before .before .before .before .before .before .loop-test) .taken) ((c .before .before .before .before .size) .result) e ((c .before .before .before .before .before .before .before .before .before .before .before .before .pre) .1 .within) ((c .before .before .before .before .before .before .before .before .before .before .before .before .pre) .1 .ghost)) (omega (arith, k-length ((c .before .before .before .before .before .before .before .loop) .inv) ((c .before .before .before .before .before .before .loop-test) .taken) ((c .before .before .before .before .size) .result) e ((c .before .before .before .before .before .before .before .before .before .before .before .before .pre) .1 .ghost), (k-pre ((c .before .before .before .before .before .before .before .loop) .inv) ((c .before .before .before .before .before .before .loop-test) .taken) ((c .before .before .before .before .size) .result) e ((c .before .before .before .before .before .before .before .before .before .before .before .before .pre) .1 .within) ((c .before .before .before .before .before .before .before .before .before .before .before .before .pre) .1 .ghost)) .whole, (c .before .before .if1) .left)) (λ q. (c .if2) .left ((c .before .kind) .ensures .is ∙ q)) ((c .before .before .before .before .before .before .before .before .before .before .before .before .args) .ty)) (record { binds = refl; w = refl; t = refl })
+    let e = ((c .before .before .before .before .before .before .before .before .before .before .before .before .before .before .before .before .size) .ensures .is ∙ size-from ((c .before .before .before .before .before .before .before .before .before .before .before .before .before .before .before .before .before .before .before .before .before .before .before .before .args) .part .now) ((c .before .before .before .before .before .before .before .before .before .before .before .before .before .before .before .before .before .before .before .loop) .i)) in
+    k-more ((c .before .before .before .before .before .before .before .before .before .before .before .before .before .before .before .before .before .before .before .loop) .inv) ((c .before .before .before .before .before .before .before .before .before .before .before .before .before .before .before .before .before .before .loop-test) .taken) ((c .before .before .before .before .before .before .before .before .before .before .before .before .before .before .before .before .size) .result) e ((c .before .before .before .before .before .before .before .before .before .before .before .before .before .before .before .before .before .before .before .before .before .before .before .before .pre) .1 .ghost) (x-ident (k-pre ((c .before .before .before .before .before .before .before .before .before .before .before .before .before .before .before .before .before .before .before .loop) .inv) ((c .before .before .before .before .before .before .before .before .before .before .before .before .before .before .before .before .before .before .loop-test) .taken) ((c .before .before .before .before .before .before .before .before .before .before .before .before .before .before .before .before .size) .result) e ((c .before .before .before .before .before .before .before .before .before .before .before .before .before .before .before .before .before .before .before .before .before .before .before .before .pre) .1 .within) ((c .before .before .before .before .before .before .before .before .before .before .before .before .before .before .before .before .before .before .before .before .before .before .before .before .pre) .1 .ghost)) ((c .before .before .before .before .before .before .before .before .before .before .value) .result) ((c .before .before .before .before .before .before .before .before .before .before .value) .ensures .is) (sym ((c .before .before .before .before .before .before .before .before .before .before .before .before .before .before .kind) .ensures .is) ∙ (c .before .before .before .before .before .before .before .before .before .before .before .if3) .taken) ((c .before .before .before .before .before .before .resolve-ident) .ensures)) (record { binds = (c .before .before .before .before .before .before .resolve-ident) .kept .1 .1 .1 .1 .0; w = (c .before .before .before .before .before .before .resolve-ident) .kept .1 .1 .1 .1 .1 .0; t = (c .before .before .before .before .before .before .resolve-ident) .kept .1 .1 .1 .1 .1 .1 .0 })
+
+each-loop-less-4 : (t : ℕ) → each-lts.Need-loop-less-4 (each-calls t) (each-at t) each.Post each-Inv-loop each-μ-loop
+each-loop-less-4 t c = let f = k-node ((c .before .before .before .before .before .before .before .before .loop) .inv) ((c .before .before .before .before .before .before .before .loop-test) .taken) ((c .before .before .before .before .before .before .before .before .before .before .before .before .before .pre) .1 .ghost) in let e = ((c .before .before .before .before .before .size) .ensures .is ∙ size-from ((c .before .before .before .before .before .before .before .before .before .before .before .before .before .args) .part .now) ((c .before .before .before .before .before .before .before .before .loop) .i)) in omega (arith, (c .before .before .before .before .before .before .before .before .before .before .before .before .before .pre) .1 .within, (c .before .before .before .before .before .before .before .before .loop) .inv .number)
+
+each-loop-again-4 : (t : ℕ) → each-lts.Need-loop-again-4 (each-calls t) (each-at t) each.Post each-Inv-loop each-μ-loop
+each-loop-again-4 t c =
+    let e = ((c .before .before .before .before .before .size) .ensures .is ∙ size-from ((c .before .before .before .before .before .before .before .before .before .before .before .before .before .args) .part .now) ((c .before .before .before .before .before .before .before .before .loop) .i)) in
+    k-more ((c .before .before .before .before .before .before .before .before .loop) .inv) ((c .before .before .before .before .before .before .before .loop-test) .taken) ((c .before .before .before .before .before .size) .result) e ((c .before .before .before .before .before .before .before .before .before .before .before .before .before .pre) .1 .ghost) (x-leaf (k-pre ((c .before .before .before .before .before .before .before .before .loop) .inv) ((c .before .before .before .before .before .before .before .loop-test) .taken) ((c .before .before .before .before .before .size) .result) e ((c .before .before .before .before .before .before .before .before .before .before .before .before .before .pre) .1 .within) ((c .before .before .before .before .before .before .before .before .before .before .before .before .before .pre) .1 .ghost)) (omega (arith, k-length ((c .before .before .before .before .before .before .before .before .loop) .inv) ((c .before .before .before .before .before .before .before .loop-test) .taken) ((c .before .before .before .before .before .size) .result) e ((c .before .before .before .before .before .before .before .before .before .before .before .before .before .pre) .1 .ghost), (k-pre ((c .before .before .before .before .before .before .before .before .loop) .inv) ((c .before .before .before .before .before .before .before .loop-test) .taken) ((c .before .before .before .before .before .size) .result) e ((c .before .before .before .before .before .before .before .before .before .before .before .before .before .pre) .1 .within) ((c .before .before .before .before .before .before .before .before .before .before .before .before .before .pre) .1 .ghost)) .whole, (c .before .if2) .left)) (λ q. (c .if3) .left ((c .before .before .before .kind) .ensures .is ∙ q)) ((c .before .before .before .before .before .before .before .before .before .before .before .before .before .args) .ty)) (record { binds = refl; w = refl; t = refl })
 
 each-same-length : (t : ℕ) → each-lts.Need-same-length (each-calls t) (each-at t) each.Post each-Inv-loop each-μ-loop
 each-same-length t c = (c .before .loop) .inv .kept
@@ -932,17 +947,21 @@ pub +each+idents-in-assign+idents-in-clause+idents-in-compr+idents-in-def+idents
     (each-sub-here t)
     (each-part-here-start t)
     (each-part-here-end t)
+    (each-kind-requires t)
     (each-add-n t)
-    (each-resolve-node-requires t)
+    (each-add-i t)
     (each-loop-less t)
     (each-loop-again t)
-    (each-kind-requires t)
-    (each-value-requires t)
-    (each-resolve-ident-requires t)
+    (each-add-n-2 t)
+    (each-resolve-node-requires t)
     (each-loop-less-2 t)
     (each-loop-again-2 t)
+    (each-value-requires t)
+    (each-resolve-ident-requires t)
     (each-loop-less-3 t)
     (each-loop-again-3 t)
+    (each-loop-less-4 t)
+    (each-loop-again-4 t)
     (each-same-length t)
     (each-same-length-2 t)
     (each-same-length-3 t)
