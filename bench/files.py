@@ -1,6 +1,6 @@
 #!/usr/bin/env python3
 # files.py FOLDER: writes node files made of real scripts, the modules of Python's own standard library:
-# real-8, real-100, real-500, real-1000, real-2000 (about so many nodes), names-1024 (as many names as a file may have).
+# real-8, real-100, real-500, real-800, real-1000, real-2000 (about so many nodes), names-1024 (as many names as a file may have).
 import ast, os, sys, sysconfig
 
 
@@ -152,7 +152,7 @@ def main():
                 texts.append((f, open(os.path.join(lib, f)).read()))
             except (UnicodeDecodeError, OSError):
                 pass
-    for most in (8, 100, 500, 1000, 2000):
+    for most in (8, 100, 500, 800, 1000, 2000):
         best = (b'', 0, '')
         for f, t in texts[:60]:
             try:

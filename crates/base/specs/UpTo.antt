@@ -1,6 +1,6 @@
 -- Lists by their places: the list of what a function gives for 0, 1, .. up to a number, and how many of these numbers pass a test.
-use Prim.Native.Nat.{ℕ, zero, suc, _-_, _≤_, _<_}
-use mathlib.Core.Path.{_≡_, refl, ap, ap₂}
+use Prim.Native.Nat.{ℕ, zero, suc, _+_, _-_, _≤_, _<_}
+use mathlib.Core.Path.{_≡_, refl, ap, ap₂, _∙_}
 use mathlib.Core.Bool.{Bool, true, false, cond}
 use mathlib.Core.Option.{some}
 use mathlib.Core.List.{List, [], _∷_, _++_}
@@ -34,6 +34,9 @@ module _ {A : Type 0} where
   at-right [] ys i h = let e : i - 0 ≡ i = omega arith in rw e refl
   at-right (x ∷ xs) ys zero h = absurd (omega arith)
   at-right (x ∷ xs) ys (suc i) h = let e : suc i - suc (length xs) ≡ i - length xs = omega arith in rw e (at-right xs ys i (omega arith))
+
+  pub at-behind : (xs ys : List A) (i : ℕ) → getElem? (xs ++ ys) (length xs + i) ≡ getElem? ys i
+  at-behind xs ys i = let e : length xs + i - length xs ≡ i = omega arith in at-right xs ys (length xs + i) (omega arith) ∙ rw e refl
 
   -- a place holds something where it is in the list
   pub at-some : (xs : List A) (i : ℕ) → i < length xs → (a : A) × (getElem? xs i ≡ some a)

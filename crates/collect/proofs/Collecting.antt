@@ -2,7 +2,7 @@
 use Prim.Native.Nat.{ℕ}
 use mathlib.Core.Path.{_≡_, refl, sym, ap, _∙_}
 use mathlib.Core.List.{List, [], _∷_, _++_, append-assoc, append-nil}
-use Rattle.lexical.specs.Tree.{Forest, nil, node, pick, through, shut, loop, load, param}
+use Rattle.lexical.specs.Tree.{Forest, nil, node, pick, through, shut}
 use Rattle.lexical.specs.Binders.{Names, Marks, Target, target, headTarget, gather, collect}
 use Rattle.lexical.specs.Code.Collect.{inLoop, inLoad, asParam}
 use Rattle.store.specs.Valid.{Valid}

@@ -1,11 +1,11 @@
 -- The steps of `add_compr`: the block of a comprehension's variables, which then come into reach.
-use Prim.Native.Nat.{ℕ, _+_, _*_, _<_, _≤_}
-use mathlib.Core.Path.{_≡_, refl, sym, ap, _∙_, subst}
+use Prim.Native.Nat.{ℕ, _+_, _<_, _≤_}
+use mathlib.Core.Path.{_≡_, sym, ap, _∙_}
 use mathlib.Core.Bool.{true, false, true≢false}
-use mathlib.Core.List.{List, _++_}
+use mathlib.Core.List.{List}
 use mathlib.Core.Option.{some}
 use native.Mathlib.Omega.{arith}
-use lib.ListN.{length, getD, getElem?}
+use lib.ListN.{getD, getElem?}
 use Rattle.lexical.specs.Tree.{top}
 use Rattle.lexical.specs.Binders.{Target, collect, looping}
 use Rattle.lexical.specs.State.{Binding, St}
@@ -13,14 +13,16 @@ use Rattle.lexical.specs.Block.{block}
 use Rattle.lexical.specs.Code.Collect.{inLoop}
 use Rattle.store.specs.declared.ids.State.{State}
 use Rattle.store.specs.declared.ids.Marks.{Marks}
-use Rattle.store.specs.Sections.{Mem, mem, Long}
-use Rattle.store.specs.Rel.{World, Rel, R, caps}
+use Rattle.store.specs.Sections.{Mem, mem}
+use Rattle.store.specs.Rel.{R, caps}
 use Rattle.store.specs.Scoping.{Opening, Opened}
 use Rattle.store.specs.Laws.Around.{saved-few}
 use Rattle.target.specs.Target.{marksOf}
+use Rattle.store.specs.Laws.Full.{was-full}
+use Rattle.store.specs.Laws.Around.{env-top}
 use Rattle.collect.specs.Cycle.{Ghost, Pre, Done}
 use Rattle.collect.specs.Declare.{plainMarks, Compr, PreCompr, ComprDone}
-use Rattle.collect.proofs.Entered.{was-full, full-block, top-scope, blockOf, block-ghost, block-done, block-new}
+use Rattle.collect.proofs.Entered.{full-block, blockOf, block-ghost, block-done, block-new}
 
 -- a mark for a loop alone
 pub marks-loop : {a b : Marks} → a ≡ plainMarks → marksOf b ≡ inLoop (marksOf a) → marksOf b ≡ looping
@@ -44,7 +46,7 @@ module _ {part : List ℕ} {at : ℕ} {s : State} {m : Mem} (p : PreCompr part a
 
     module _ (n : ℕ) (e : n ≡ getD (m .t) (20736 + s .level) 0) where
       v-scope : (g : Compr part at s m) → (n ≡ top (g .ss)) × (top (g .ss) < 256)
-      v-scope g = let q = top-scope (g .rel .rel free .around) in (e ∙ q .0, q .1)
+      v-scope g = let q = env-top (g .rel .rel free .around) in (e ∙ q .0, q .1)
 
       abbrev v-ghost : Compr part at s m → Ghost part at (blockOf n (s .bindings)) s m
       v-ghost g = block-ghost n (top (g .ss)) (v-scope g .0) (v-scope g .1) free (g .rel) (g .f) (g .reads) (g .valid)

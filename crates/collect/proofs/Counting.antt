@@ -1,18 +1,17 @@
 -- A function's parameter variables, counted node by node.
-use Prim.Native.Nat.{ℕ, zero, suc, _+_, _-_, _*_, _≤_, _<_}
+use Prim.Native.Nat.{ℕ, _+_, _-_, _*_, _≤_, _<_}
 use mathlib.Core.Path.{_≡_, refl, sym, ap, _∙_, subst}
 use mathlib.Core.Bool.{Bool, true, false, cond, not, _&&_}
-use mathlib.Core.List.{List, []}
+use mathlib.Core.List.{List}
 use native.Mathlib.Omega.{arith}
-use lib.ListN.{length, take, drop, length-drop}
+use lib.ListN.{length, drop}
 use lib.Dec.{eqb}
-use Rattle.base.specs.Parts.{part-from}
 use Rattle.bits.specs.FieldLaws.{field-past}
 use Rattle.lexical.specs.Lists.{eqb-not}
 use Rattle.lexical.specs.Tree.{Forest, nil, node, empty, after, params}
 use Rattle.nodefile.specs.Node.{kindOf, sizeOf, valueOf}
 use Rattle.nodefile.specs.Reads.{Reads, reads-size, countOf}
-use Rattle.collect.specs.Parts.{Walk, Left, left-start, left-end, left-split, left-sibling, left-one, left-more, Sibling, size-from}
+use Rattle.collect.specs.Parts.{Walk, Left, Sibling, left-end, left-split, left-sibling, left-more}
 use Rattle.collect.specs.Declare.{Params}
 
 -- ---- one node

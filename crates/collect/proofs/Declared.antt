@@ -1,24 +1,23 @@
 -- The steps of `declare_node`: what a Def, a Lambda and another node add to the tables of walk two.
-use Prim.Native.Nat.{ℕ, _+_, _-_, _*_, _<_, _≤_}
-use mathlib.Core.Path.{_≡_, refl, sym, ap, _∙_, subst}
-use mathlib.Core.List.{List, [], _∷_, _++_, append-nil}
+use Prim.Native.Nat.{ℕ, _+_, _-_, _*_, _≤_}
+use mathlib.Core.Path.{_≡_, refl, sym, ap, _∙_}
+use mathlib.Core.List.{List, [], _∷_, append-nil}
 use native.Mathlib.Omega.{arith}
 use native.Mathlib.Nat.{zero-add}
 use lib.ListN.{length, take, drop}
 use lib.Seq.{drop-drop}
 use Rattle.base.specs.Parts.{drop-take, part-length}
 use Rattle.lexical.specs.Tree.{Forest, nil, node, way, isFn, when, after, params}
-use Rattle.lexical.specs.Binders.{Names, Target, collect, unmarked, targets}
+use Rattle.lexical.specs.Binders.{Names, collect, unmarked, targets}
 use Rattle.lexical.specs.State.{Row, St}
 use Rattle.lexical.specs.Second.{declareHere, declareFn}
 use Rattle.lexical.specs.Proof.Kinds.{no-fn}
 use Rattle.nodefile.specs.Node.{sizeOf, kindOf, valueOf, below}
-use Rattle.nodefile.specs.Reads.{Reads, below-length}
+use Rattle.nodefile.specs.Reads.{below-length}
 use Rattle.store.specs.declared.ids.State.{State}
 use Rattle.store.specs.Sections.{Mem}
-use Rattle.store.specs.Rel.{R}
 use Rattle.collect.specs.Parts.{kids-part, Named, named}
-use Rattle.collect.specs.Declare.{ownParams, worldOf, Unmet, Function, PreFunction, FunctionDone, Here, PreHere, HereDone}
+use Rattle.collect.specs.Declare.{ownParams, Function, PreFunction, FunctionDone, Here, PreHere, HereDone}
 
 -- ---- what a node adds
 

@@ -1,12 +1,10 @@
 -- A function's or a comprehension's block, from the relation before it to the relation after it.
-use Prim.Native.Nat.{ℕ, _+_, _<_, _≤_}
-use mathlib.Core.Path.{_≡_, refl, sym, ap, _∙_, subst}
-use mathlib.Core.Bool.{Bool, true, false, true≢false}
-use mathlib.Core.List.{List, [], _∷_, _++_}
-use mathlib.Core.Option.{some}
-use native.Mathlib.Omega.{arith}
-use lib.ListN.{length, getD, getElem?}
-use Rattle.lexical.specs.Tree.{Forest, top}
+use Prim.Native.Nat.{ℕ, _<_}
+use mathlib.Core.Path.{_≡_, refl, sym, _∙_}
+use mathlib.Core.Bool.{true, false, true≢false}
+use mathlib.Core.List.{List, []}
+use lib.ListN.{length}
+use Rattle.lexical.specs.Tree.{Forest}
 use Rattle.lexical.specs.Binders as bind
 use Rattle.lexical.specs.Binders.{Target, collect}
 use Rattle.lexical.specs.State.{Binding, St}
@@ -15,37 +13,24 @@ use Rattle.nodefile.specs.Reads.{Reads}
 use Rattle.store.specs.declared.ids.State.{State}
 use Rattle.store.specs.declared.ids.Block.{Block}
 use Rattle.store.specs.declared.ids.Marks.{Marks}
-use Rattle.store.specs.Sections.{Mem, mem}
-use Rattle.store.specs.Meanings.{EnvIn, Range}
+use Rattle.store.specs.Sections.{Mem}
+use Rattle.store.specs.Meanings.{Range}
 use Rattle.store.specs.Rel.{World, Rel, R, caps}
-use Rattle.store.specs.Blocks.{localBlock, bindingsOf, blockSt, RB}
+use Rattle.store.specs.Blocks.{localBlock}
 use Rattle.store.specs.Valid.{Valid}
-use Rattle.store.specs.Laws.Around.{env-top, saved-few}
 use Rattle.target.specs.Target.{BlockIs, marksOf}
 use Rattle.target.specs.Blocks.{over-more}
 use Rattle.target.specs.Whole.{block-range, block-is, block-none, opens, closes}
 use Rattle.collect.specs.Cycle.{Ghost, Done}
 
--- ---- where a list is full
-
-pub was-full : {W W′ : World} {env env′ : List Binding} {ss ss′ : List ℕ} {st : St} {s : State} {m m′ : Mem} → s .full ≡ true → R W env ss st s m → R W′ env′ ss′ st s m′
-was-full e r = record { over = r .over; rel = λ f. absurd (true≢false (sym e ∙ f)) }
-
+-- where a list is full it stays so
 pub full-block : {W : World} {env : List Binding} {ss : List ℕ} {st : St} {s : State} {m : Mem} (k : ℕ) (ts : List Target) → R W env ss st s m → s .full ≡ true → R W env ss (block k ts st .1) s m
 full-block {st = st} k ts r e = record {
   over = λ f. rw (block-is k ts st) (over-more (localBlock k st) [] ts (rw (block-none k st) (r .over f)));
   rel = λ f. absurd (true≢false (sym e ∙ f));
 }
 
--- ---- the scope that the walk stands in
-
-pub top-scope : {env : List Binding} {ss : List ℕ} {made : List Binding} {level : ℕ} {t : List ℕ} → EnvIn env ss made level t → (getD t (20736 + level) 0 ≡ top ss) × (top ss < 256)
-unfolding top
-top-scope {ss = []} e = absurd (omega (arith, e .level-is))
-top-scope {ss = s ∷ ss} e = env-top e
-
--- ---- the block
-
+-- the block that code is told of
 abbrev pub blockOf : ℕ → ℕ → Block
 blockOf k first = record { scope = record { 0 = k }; first = first; local = true }
 

@@ -1,28 +1,27 @@
 -- The steps of `collect_defines_in_def`: a function's parameter variables are counted, its block is collected, and its stretch of the bindings kept.
 use Prim.Native.Nat.{ℕ, _+_, _*_, _%_, _<_, _≤_}
-use mathlib.Core.Path.{_≡_, refl, sym, ap, _∙_, subst}
+use mathlib.Core.Path.{_≡_, refl, sym, ap, _∙_}
 use mathlib.Core.Bool.{true, false, true≢false}
 use mathlib.Core.List.{List, [], _∷_, _++_}
 use native.Mathlib.Omega.{arith}
-use lib.Dec.{eqb}
 use lib.ListN.{length, getD, set, length-set}
 use Rattle.lexical.specs.Lists.{first, first-here, first-other, eqb-self, eqb-not}
 use Rattle.lexical.specs.Tree.{Forest, params}
 use Rattle.lexical.specs.Binders.{Target, collect, unmarked}
 use Rattle.lexical.specs.State.{Binding, Row, St}
 use Rattle.lexical.specs.Block.{block}
-use Rattle.lexical.specs.Second.{rows, rowNames}
+use Rattle.lexical.specs.Second.{declareFn, keyed, rows, rowNames}
 use Rattle.lexical.specs.Records.{paramsOf}
-use Rattle.lexical.specs.Second.{declareFn}
 use Rattle.nodefile.specs.Reads.{Reads}
 use Rattle.store.specs.declared.ids.State.{State}
 use Rattle.store.specs.declared.ids.Marks.{Marks}
-use Rattle.store.specs.Sections.{Mem, mem, Long}
-use Rattle.store.specs.Rel.{World, Rel, R, caps}
+use Rattle.store.specs.Sections.{Mem, mem}
+use Rattle.store.specs.Rel.{World, R}
 use Rattle.target.specs.Target.{marksOf}
+use Rattle.store.specs.Laws.Full.{was-full}
 use Rattle.collect.specs.Cycle.{Ghost, Pre, Done}
-use Rattle.collect.specs.Declare.{plainMarks, keyed, counted, worldOf, Unmet, Function, PreFunction, FunctionDone}
-use Rattle.collect.proofs.Entered.{was-full, full-block, blockOf, block-ghost, block-done, block-new}
+use Rattle.collect.specs.Declare.{plainMarks, counted, worldOf, Unmet, Function, PreFunction, FunctionDone}
+use Rattle.collect.proofs.Entered.{full-block, blockOf, block-ghost, block-done, block-new}
 use Rattle.collect.proofs.Stored.{rel-params, rel-range}
 
 -- ---- one scope more in the tables
@@ -37,11 +36,11 @@ module _ (k : ℕ) (tbl : List Row) (ps : List (ℕ × ℕ)) where
   params-others n u h = ap paramsOf (first-other (counted u) ps (k, n) (eqb-not k u (λ e. h (sym e))))
 
   pub rows-here : (bs : List Binding) → Unmet k tbl ps → rows (tbl ++ (record { scope = k; names = bs } ∷ [])) k ≡ bs
-  unfolding rows rowNames keyed
+  unfolding rows rowNames
   rows-here bs u = ap rowNames (first-here (keyed k) tbl (record { scope = k; names = bs }) (u .row) (eqb-self k))
 
   pub rows-others : (bs : List Binding) (u : ℕ) → (u ≡ k → ⊥) → rows (tbl ++ (record { scope = k; names = bs } ∷ [])) u ≡ rows tbl u
-  unfolding rows keyed
+  unfolding rows
   rows-others bs u h = ap rowNames (first-other (keyed u) tbl (record { scope = k; names = bs }) (eqb-not k u (λ e. h (sym e))))
 
 -- no mark

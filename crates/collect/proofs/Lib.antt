@@ -1,5 +1,6 @@
 pub mod Picks
 pub mod Collecting
+pub mod Kids
 pub mod Steps
 pub mod Counting
 pub mod Stored
@@ -8,4 +9,5 @@ pub mod Comprs
 pub mod Functions
 pub mod Declared
 pub mod Ordered
+pub mod Going
 pub mod Walked

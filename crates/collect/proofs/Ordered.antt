@@ -1,21 +1,18 @@
 -- All nodes of a part in order: forests that stand one after the other. The first node's children and its later siblings take its place.
-use Prim.Native.Nat.{ℕ, _+_, _-_, _*_, _<_, _≤_}
-use mathlib.Core.Path.{_≡_, refl, sym, ap, ap₂, _∙_, subst}
-use mathlib.Core.Logic.{_⊎_, inl, inr}
-use mathlib.Core.List.{List, [], _∷_, _++_, append-nil, append-assoc}
+use Prim.Native.Nat.{ℕ, _+_, _-_, _*_, _≤_}
+use mathlib.Core.Path.{_≡_, refl, sym, _∙_, subst}
+use mathlib.Core.List.{List, [], _∷_, _++_}
 use native.Mathlib.Omega.{arith}
-use native.Mathlib.Nat.{add-zero}
 use lib.ListN.{length, take, drop, length-take, length-drop}
-use lib.Seq.{take-all, take-take, drop-drop, drop-length, take-length}
+use lib.Seq.{take-take, drop-drop, drop-length, take-length}
 use Rattle.base.specs.Parts.{drop-take}
-use Rattle.lexical.specs.Places.{In, Distinct, in-left, in-right, distinct-right, disjoint}
 use Rattle.lexical.specs.Tree.{Forest, nil, node, Way, isFn, when, listed, scopesIn, paramsIn}
-use Rattle.lexical.specs.Binders.{Names, targets}
+use Rattle.lexical.specs.Binders.{Names}
 use Rattle.lexical.specs.State.{Row, St}
-use Rattle.lexical.specs.Second.{declareHere, declare}
+use Rattle.lexical.specs.Second.{declare}
 use Rattle.nodefile.specs.Node.{sizeOf, kindOf, valueOf, below}
 use Rattle.nodefile.specs.Reads.{Reads, countOf, reads-none, reads-length, reads-size}
-use Rattle.store.specs.Valid.{NodeOk, Valid}
+use Rattle.store.specs.Valid.{Valid}
 use Rattle.collect.specs.Parts.{kind-take, size-take, value-take}
 
 -- the part t, whose first node has the number n, holds these forests, one after the other

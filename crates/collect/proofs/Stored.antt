@@ -1,13 +1,13 @@
 -- What the stores of walk two do to the relation: a scope's parameter variables, and a function's stretch of the bindings.
-use Prim.Native.Nat.{ℕ, _+_, _*_, _%_, _<_, _≤_}
+use Prim.Native.Nat.{ℕ, _+_, _*_, _%_, _<_}
 use mathlib.Core.Path.{_≡_}
 use mathlib.Core.Bool.{Bool}
 use mathlib.Core.List.{List}
 use native.Mathlib.Omega.{arith}
-use lib.ListN.{length, getD, set, length-set}
+use lib.ListN.{length, getD, set}
 use Rattle.lexical.specs.State.{Binding, St}
 use Rattle.store.specs.declared.ids.State.{State}
-use Rattle.store.specs.Sections.{Mem, mem}
+use Rattle.store.specs.Sections.{mem}
 use Rattle.store.specs.Meanings.{Range}
 use Rattle.store.specs.Rel.{World, Rel}
 use Rattle.store.specs.Laws.Made.{made-skip}

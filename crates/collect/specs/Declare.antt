@@ -1,7 +1,7 @@
 -- The blocks themselves: the module, each Def and Lambda in node order (walk two), and a comprehension.
 use Prim.Native.Nat.{ℕ, _+_, _*_, _<_, _≤_}
 use mathlib.Core.Path.{_≡_}
-use mathlib.Core.Bool.{Bool, true, false}
+use mathlib.Core.Bool.{Bool, false}
 use mathlib.Core.List.{List, [], _∷_, _++_}
 use mathlib.Core.Option.{none}
 use lib.Dec.{eqb}
@@ -14,9 +14,8 @@ use Rattle.lexical.specs.Module.{File, moduleVars}
 use Rattle.lexical.specs.State.{Binding, Row, St}
 use Rattle.lexical.specs.Block.{block}
 use Rattle.lexical.specs.First.{start}
-use Rattle.lexical.specs.Second.{declareHere, rows, second}
+use Rattle.lexical.specs.Second.{declareFn, declareHere, keyed, rows, second}
 use Rattle.lexical.specs.Records.{paramsOf}
-use Rattle.lexical.specs.Second.{declareFn}
 use Rattle.nodefile.specs.Node.{sizeOf, kindOf, valueOf, below}
 use Rattle.nodefile.specs.Reads.{Reads}
 use Rattle.store.specs.declared.ids.State.{State}
@@ -35,9 +34,6 @@ abbrev pub plainMarks : Marks
 plainMarks = record { in_loop = false; load = false; param = false }
 
 -- the rows of walk two so far, and the parameters that it has counted
-unfoldable pub keyed : ℕ → Row → Bool
-keyed s r = eqb (r .scope) s
-
 unfoldable pub counted : ℕ → ℕ × ℕ → Bool
 counted s p = eqb (p .0) s
 

@@ -1,3 +1,3 @@
+pub mod Parts
 pub mod Cycle
 pub mod Declare
-pub mod Parts

@@ -1,6 +1,6 @@
 // The blocks: the module, each Def and Lambda in node order, and a comprehension.
 ghost use mathlib.Core.Path.{_≡_};
-ghost use Prim.Native.Nat.{ℕ, _+_, _*_, _≤_, _<_};
+ghost use Prim.Native.Nat.{ℕ, _*_, _≤_};
 ghost use lib.ListN.{length};
 ghost use Rattle.lexical.specs.Tree.{Forest, params};
 ghost use Rattle.nodefile.specs.Reads.{Reads};

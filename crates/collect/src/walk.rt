@@ -1,7 +1,5 @@
 // The targets of some nodes, in order: statements, targets, clauses and parameters call one another. Nothing is bound by an expression or a type.
 ghost use mathlib.Core.Path.{_≡_};
-ghost use Prim.Native.Nat.{_+_, _≤_, _<_};
-ghost use lib.ListN.{length};
 ghost use Rattle.store.specs.Sections.{mem};
 ghost use Rattle.target.specs.Target.{marksOf};
 ghost use Rattle.collect.specs.Cycle.{Pre, Pre1, PreKind, Done};

@@ -17,6 +17,7 @@ use Rattle.store.specs.declared.ids.State.{State}
 use Rattle.store.specs.Sections.{Mem, mem}
 use Rattle.store.specs.Rel.{Rel, R, caps}
 use Rattle.store.specs.Blocks.{localBlock}
+use Rattle.store.specs.Laws.Lengths.{Kept, long-kept}
 use Rattle.store.specs.Valid.{Some}
 use Rattle.store.specs.Scoping.{Numbered, Closing, Closed}
 use Rattle.target.specs.Whole.{block-is, block-numbered, block-owner, block-range}
@@ -25,7 +26,7 @@ use Rattle.collect.specs.Declare.{Compr, PreCompr, ComprDone}
 use Rattle.idents.specs.Cycle.{Ghost, Pre, Pre1, PreKind, Done, DoneAny, resolvedAt}
 use Rattle.idents.proofs.Resolving.{compr-node}
 use Rattle.idents.proofs.Overs.{block-open, outside-open}
-use Rattle.idents.proofs.Steps.{kind-is, Kept, long-kept, x-long, x-one, x-right, x-kids-length}
+use Rattle.idents.proofs.Steps.{kind-is, x-long, x-one, x-right, x-kids-length}
 use Rattle.idents.proofs.Cuts.{front, back, f-split, f-fine, f-cut, f-first-ghost, f-first-pre, f-rest-within}
 use Rattle.idents.proofs.Functions.{owned-append}
 
@@ -82,7 +83,7 @@ module _ {part : List ℕ} {at : ℕ} {s : State} {m : Mem} (p : PreKind 13 13 p
       q-compr g = record { W = g .W; env = g .env; ss = g .ss; st = _; f = x-one (p .one) g .kids; reads = x-one (p .one) g .under; valid = x-one (p .one) g .valid; rel = x .right (q-first-ghost g) }
 
       pub q-compr-pre : Kept m m₁ → PreCompr q-kids (at + 1) s₁ m₁
-      q-compr-pre k = record { long = long-kept k (p .one .pre .long); within = omega (arith, p .one .pre .within, x-long (p .one), x-kids-length (p .one)); ghost = q-compr (p .one .pre .ghost) }
+      q-compr-pre k = record { long = long-kept (p .one .pre .long) k; within = omega (arith, p .one .pre .within, x-long (p .one), x-kids-length (p .one)); ghost = q-compr (p .one .pre .ghost) }
 
       module _ {s₂ : State} {m₂ : Mem} (y : ComprDone q-kids (at + 1) s₁ m₁ s₂ m₂) where
         -- the others
@@ -111,7 +112,7 @@ module _ {part : List ℕ} {at : ℕ} {s : State} {m : Mem} (p : PreKind 13 13 p
             }
 
         pub q-rest-pre : Kept m m₁ → Kept m₁ m₂ → Pre (back q-kids b) (at + 1 + b / 8) s₂ m₂
-        q-rest-pre k j = record { long = long-kept j (long-kept k (p .one .pre .long)); within = f-rest-within (p .one) q-some b hb; ghost = q-rest-ghost (p .one .pre .ghost) }
+        q-rest-pre k j = record { long = long-kept (long-kept (p .one .pre .long) k) j; within = f-rest-within (p .one) q-some b hb; ghost = q-rest-ghost (p .one .pre .ghost) }
 
         module _ {r : State} {m₃ : Mem} (z : Done (back q-kids b) (at + 1 + b / 8) false s₂ m₂ r m₃) where
           -- what the whole comes to
@@ -156,7 +157,7 @@ module _ {part : List ℕ} {at : ℕ} {s : State} {m : Mem} (p : PreKind 13 13 p
             }
 
             pub q-close-pre : Kept m m₁ → Kept m₁ m₂ → Kept m₂ m₃ → (2304 ≤ length (m₃ .binds)) × (length (m₃ .t) ≡ 20864) × Closing (m₃ .binds) (m₃ .t) (s₁ .bindings) (s₂ .bindings)
-            q-close-pre k j i = let l = long-kept i (long-kept j (long-kept k (p .one .pre .long))) in (l .binds, l .t, q-closing (p .one .pre .ghost))
+            q-close-pre k j i = let l = long-kept (long-kept (long-kept (p .one .pre .long) k) j) i in (l .binds, l .t, q-closing (p .one .pre .ghost))
 
             pub q-done : {t₄ : List ℕ} → Closed (m₃ .binds) (m₃ .t) (s₁ .bindings) (s₂ .bindings) t₄ → DoneAny part at s m r (mem (m₃ .binds) (m₃ .w) t₄)
             q-done u = record { right = λ g ty. q-right g ty (record { over = λ h. absurd (true≢false (sym h ∙ f)); rel = λ h. u .right (q-closing g) }) }

@@ -14,12 +14,13 @@ use Rattle.nodefile.specs.Reads.{Reads}
 use Rattle.store.specs.declared.ids.State.{State}
 use Rattle.store.specs.Sections.{Mem, Long}
 use Rattle.store.specs.Rel.{R}
+use Rattle.store.specs.Laws.Lengths.{Kept, long-kept}
 use Rattle.store.specs.Valid.{Some}
 use Rattle.collect.specs.Parts.{alone, Split, split, some-long}
 use Rattle.idents.specs.Cycle.{Ghost, Pre, Pre1, PreKind, Done, LastAt}
 use Rattle.idents.proofs.Fine.{Fine, fine-apart}
 use Rattle.idents.proofs.Resolving.{clause-node}
-use Rattle.idents.proofs.Steps.{passed-on, whole-node, kind-is, Kept, long-kept, x-long, x-one, x-right, x-kids-length, x-kids-fine}
+use Rattle.idents.proofs.Steps.{passed-on, whole-node, x-long, x-one, x-right, x-kids-length, x-kids-fine}
 
 abbrev pub front : List ℕ → ℕ → List ℕ
 front t b = take (b - 0) (drop 0 t)
@@ -69,8 +70,12 @@ alone-pre {t} {at} g a k v kids e l w =
     let q = whole-node t at a k v kids (subst (Reads t at) e (g .reads)) in
     record { some = q .0; whole = q .1; pre = record { long = l; within = w; ghost = g } }
 
-pub clause-some : {part : List ℕ} {at : ℕ} {s : State} {m : Mem} (p : PreKind 15 15 part at s m) → (g : Ghost part at s m) → Some (x-one (p .one) g .kids)
-clause-some p g = x-one (p .one) g .ok .clause (kind-is p)
+-- a clause that is no IfClause
+pub for-clause : {part : List ℕ} {at : ℕ} {s : State} {m : Mem} {k : ℕ} → PreKind 15 16 part at s m → k ≡ kindOf part → (k ≡ 16 → ⊥) → kindOf part ≡ 15
+for-clause p e h = omega (arith, p .low, p .high)
+
+pub clause-some : {part : List ℕ} {at : ℕ} {s : State} {m : Mem} (p : Pre1 part at s m) → kindOf part ≡ 15 → (g : Ghost part at s m) → Some (x-one p g .kids)
+clause-some p e g = x-one p g .ok .clause e
 
 -- ---- the children of a clause or of a comprehension: the first, and the others
 
@@ -121,7 +126,7 @@ module _ {part : List ℕ} {at : ℕ} {s : State} {m : Mem} (p : Pre1 part at s 
 
     module _ {ty : Bool} {s₁ : State} {m₁ : Mem} (x : Done (back kids-of b) (at + 1 + b / 8) ty s m s₁ m₁) where
       pub c-first-pre : Kept m m₁ → Pre1 (front kids-of b) (at + 1) s₁ m₁
-      c-first-pre k = f-first-pre _ (x .right (c-rest-ghost (p .pre .ghost))) (long-kept k (p .pre .long))
+      c-first-pre k = f-first-pre _ (x .right (c-rest-ghost (p .pre .ghost))) (long-kept (p .pre .long) k)
 
       pub c-done : {r : State} {m′ : Mem} → kindOf part ≡ 15 → Done (front kids-of b) (at + 1) ty s₁ m₁ r m′ → Done part at ty s m r m′
       c-done e y = record {

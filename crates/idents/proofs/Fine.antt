@@ -44,6 +44,14 @@ unfolding _⊕_
 height-back nil g = omega arith
 height-back (node a k v kids rest) g = omega (arith, height-back rest g, le-max-right (suc (height kids)) (height (rest ⊕ g)))
 
+height-joined : (f g : Forest) (n : ℕ) → height f ≤ n → height g ≤ n → height (f ⊕ g) ≤ n
+unfolding _⊕_
+height-joined nil g n p q = q
+height-joined (node a k v kids rest) g n p q =
+    max-le
+    (omega (arith, le-max-left (suc (height kids)) (height rest)))
+    (height-joined rest g n (omega (arith, le-max-right (suc (height kids)) (height rest))) q)
+
 -- ---- scopes
 
 scopes-nil : scopesIn nil ≡ []
@@ -114,6 +122,11 @@ unfolding Valid _⊕_
 valid-back nil g h = h
 valid-back (node a k v kids rest) g h = valid-back rest g (h .2)
 
+valid-joined : (f g : Forest) → Valid f → Valid g → Valid (f ⊕ g)
+unfolding Valid _⊕_
+valid-joined nil g p q = q
+valid-joined (node a k v kids rest) g p q = (p .0, p .1, valid-joined rest g (p .2) q)
+
 module _ {ss : List ℕ} where
   fine-part : {f g : Forest} → Fine ss g → Valid f → height f ≤ height g → Within (scopesIn f) (scopesIn g) → Fine ss f
   fine-part h v e w = record { valid = v; deep = omega (arith, h .deep); apart = w .once (h .apart); unmet = λ s m. h .unmet s (w .among s m) }
@@ -131,6 +144,17 @@ module _ {ss : List ℕ} where
 
   pub fine-back : (f g : Forest) → Fine ss (f ⊕ g) → Fine ss g
   fine-back f g h = fine-part h (valid-back f g (h .valid)) (height-back f g) (rw (scopes-joined f g) (within-right (scopesIn f) (scopesIn g)))
+
+  -- a node's children before what follows it, where it is no function
+  pub fine-opened : (a k v : ℕ) (kids rest : Forest) → (k ≡ 6 → ⊥) → (k ≡ 12 → ⊥) → Fine ss (node a k v kids rest) → Fine ss (kids ⊕ rest)
+  fine-opened a k v kids rest n m h =
+      let z : scopesIn (node a k v kids rest) ≡ scopesIn (kids ⊕ rest) = scopes-others k n m a v kids rest ∙ sym (scopes-joined kids rest) in
+      record {
+        valid = unfold Valid in valid-joined kids rest (h .valid .1) (h .valid .2);
+        deep = omega (arith, h .deep, height-joined kids rest (height (node a k v kids rest)) (omega (arith, height-kids a k v kids rest)) (height-rest a k v kids rest));
+        apart = subst Distinct z (h .apart);
+        unmet = λ s i. h .unmet s (subst (In s) (sym z) i);
+      }
 
 -- ---- a function
 

@@ -13,12 +13,13 @@ use Rattle.lexical.specs.State.{Binding}
 use Rattle.nodefile.specs.Node.{kindOf, valueOf}
 use Rattle.store.specs.declared.ids.State.{State}
 use Rattle.store.specs.Sections.{Mem, mem, Long}
+use Rattle.store.specs.Laws.Lengths.{Kept, long-kept}
 use Rattle.store.specs.Valid.{Some, NameFirst}
 use Rattle.lookup.specs.Enter.{OwnedIn, Entering, Entered, Leaving, Left}
 use Rattle.idents.specs.Cycle.{Ghost, Pre, Pre1, PreDef, Done, DoneAny, Parted, LastAt}
 use Rattle.idents.proofs.Fine.{Fine, fine-front, fine-back, fine-room, fine-new, fine-inside}
 use Rattle.idents.proofs.Resolving.{function-node}
-use Rattle.idents.proofs.Steps.{passed-on, Kept, long-kept, x-long, x-one, x-fine, x-right, x-kids-length, x-kids-fine}
+use Rattle.idents.proofs.Steps.{passed-on, x-long, x-one, x-fine, x-right, x-kids-length, x-kids-fine}
 use Rattle.idents.proofs.Cuts.{front, back, Cut, cut-last, front-length, back-length, alone-pre}
 
 -- owners of two lists, one in front of the other
@@ -27,7 +28,7 @@ owned-append [] env ss h o j x e = o j x e
 owned-append (b ∷ bs) env ss h o zero x e = h 0 x e
 owned-append (b ∷ bs) env ss h o (suc j) x e = owned-append bs env ss (λ i y q. h (suc i) y q) o j x e
 
-name-some : (f : Forest) → NameFirst f → Some f
+pub name-some : (f : Forest) → NameFirst f → Some f
 unfolding NameFirst Some
 name-some nil h = h
 name-some (node a k v kids rest) h = tt
@@ -110,7 +111,7 @@ module _ {part : List ℕ} {at : ℕ} {s : State} {m : Mem} (p : PreDef part at 
       }
 
       pub d-enter-pre : Kept m m₁ → (2304 ≤ length (m₁ .binds)) × (length (m₁ .t) ≡ 20864) × Entering scope s₁ (m₁ .binds) (m₁ .t)
-      d-enter-pre k = let l = long-kept k (p .one .pre .long) in (l .binds, l .t, d-entering (p .one .pre .ghost))
+      d-enter-pre k = let l = long-kept (p .one .pre .long) k in (l .binds, l .t, d-entering (p .one .pre .ghost))
 
       module _ {s₂ : State} {t₂ : List ℕ} (y : Entered scope s₁ (m₁ .binds) (m₁ .t) s₂ t₂) where
         d-owned : (g : Ghost part at s m) → OwnedIn (g .W .D scope ++ g .env) (scope ∷ g .ss)
@@ -141,7 +142,7 @@ module _ {part : List ℕ} {at : ℕ} {s : State} {m : Mem} (p : PreDef part at 
         }
 
         d-long : Kept m m₁ → length t₂ ≡ length (m₁ .t) → Long (mem (m₁ .binds) (m₁ .w) t₂)
-        d-long k e = let l = long-kept k (p .one .pre .long) in record { binds = l .binds; w = l .w; t = e ∙ l .t }
+        d-long k e = let l = long-kept (p .one .pre .long) k in record { binds = l .binds; w = l .w; t = e ∙ l .t }
 
         pub d-body-pre : Kept m m₁ → length t₂ ≡ length (m₁ .t) → Pre1 (back d-kids b) (at + 1 + b / 8) s₂ (mem (m₁ .binds) (m₁ .w) t₂)
         d-body-pre k e =
@@ -163,7 +164,7 @@ module _ {part : List ℕ} {at : ℕ} {s : State} {m : Mem} (p : PreDef part at 
           }
 
           pub d-leave-pre : Kept m m₁ → length t₂ ≡ length (m₁ .t) → Kept (mem (m₁ .binds) (m₁ .w) t₂) m₃ → (2304 ≤ length (m₃ .binds)) × (length (m₃ .t) ≡ 20864) × Leaving scope s₃ (m₃ .binds) (m₃ .t)
-          d-leave-pre k e j = let l = long-kept j (d-long k e) in (l .binds, l .t, d-leaving (p .one .pre .ghost))
+          d-leave-pre k e j = let l = long-kept (d-long k e) j in (l .binds, l .t, d-leaving (p .one .pre .ghost))
 
           pub d-done : {r : State} {t₄ : List ℕ} → Left scope s₃ (m₃ .binds) (m₃ .t) r t₄ → DoneAny part at s m r (mem (m₃ .binds) (m₃ .w) t₄)
           d-done u = record {

@@ -7,3 +7,4 @@ pub mod Steps
 pub mod Cuts
 pub mod Functions
 pub mod Comprs
+pub mod Leaves

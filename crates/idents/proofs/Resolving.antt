@@ -11,7 +11,7 @@ use Rattle.lexical.specs.Module.{Outer}
 use Rattle.lexical.specs.State.{Binding, St, Ctx}
 use Rattle.lexical.specs.Block.{block, called}
 use Rattle.lexical.specs.Third.{lookFound, typed, enter, inner}
-use Rattle.lexical.specs.Code.Visit.{visit, each, each-nil, each-node, each-one, visit-others, visit-ident, visit-type, visit-forClause, visit-def, visit-lambda, visit-compr}
+use Rattle.lexical.specs.Code.Visit.{visit, each, each-nil, each-node, each-append, each-one, visit-others, visit-ident, visit-type, visit-forClause, visit-def, visit-lambda, visit-compr}
 use Rattle.collect.specs.Parts.{Walk}
 use Rattle.idents.proofs.Fine.{Fine, fine-apart}
 
@@ -40,6 +40,11 @@ module _ (N : Names) (D : ℕ → List Binding) (out : ℕ → Outer) where
     -- a node by itself that comes to what its children come to
     pub other-node : Other k → (c : Ctx) (st : St) → each N D out (node at k v kids nil) c st ≡ each N D out kids c st
     other-node h c st = each-one N D out at k v kids c st ∙ visit-others N D out k (h .0) (h .1) (h .2) (h .3) (h .4) (h .5) at v kids c st
+
+    -- .. and then to what those after it come to: its children stand before them
+    pub opened-node : Other k → (rest : Forest) (c : Ctx) (st : St) → each N D out (kids ⊕ rest) c st ≡ each N D out (node at k v kids rest) c st
+    opened-node h rest c st =
+        each-append N D out kids rest c st ∙ ap (λ (x : St). each N D out rest c x) (sym (other-node h c st)) ∙ sym (each-step c at k v kids rest st)
 
     pub type-node : k ≡ 18 → (env : List Binding) (ss : List ℕ) (ty : Bool) (st : St) → each N D out (node at k v kids nil) (ctx env ss ty) st ≡ each N D out kids (ctx env ss true) st
     unfolding typed

@@ -3,22 +3,25 @@
 use Prim.Native.Nat.{ℕ, _+_, _-_, _*_, _≤_, _<_}
 use mathlib.Core.Path.{_≡_, refl, sym, ap, _∙_, subst}
 use mathlib.Core.Bool.{Bool, true}
-use mathlib.Core.List.{List}
+use mathlib.Core.List.{List, _++_}
 use native.Mathlib.Omega.{arith}
-use lib.ListN.{length, take, drop, length-drop}
-use Rattle.lexical.specs.Tree.{Forest, nil, node}
+use lib.ListN.{length, take, drop, length-drop, take-append-drop}
+use lib.Seq.{drop-drop, length-take-le}
+use Rattle.lexical.specs.Tree.{Forest, nil, node, _⊕_}
 use Rattle.lexical.specs.Module.{outer}
 use Rattle.lexical.specs.State.{St}
-use Rattle.nodefile.specs.Node.{sizeOf, kindOf, valueOf, after}
+use Rattle.nodefile.specs.Node.{sizeOf, kindOf, valueOf, below, after}
 use Rattle.nodefile.specs.Reads.{Reads}
 use Rattle.store.specs.declared.ids.State.{State}
 use Rattle.store.specs.Sections.{Mem, Long}
 use Rattle.store.specs.Rel.{R}
+use Rattle.store.specs.Laws.Lengths.{Kept, long-kept}
 use Rattle.lookup.specs.Lookup.{Ident, IdentDone}
-use Rattle.collect.specs.Parts.{alone, One, one, kids-length, Walk, Left, Sibling, left-start, left-end, left-sibling, left-one, left-fine, left-reads, left-more, sibling-length, sibling-size}
+use Rattle.collect.specs.Parts.{alone, One, one, kids-length, Split, Walk, Left, Sibling, left-start, left-end, left-split, left-sibling, left-one, left-fine, left-reads, left-more, sibling-length, sibling-size}
 use Rattle.idents.specs.Cycle.{Ghost, Pre, Pre1, PreKind, Done, DoneAny, resolvedAt}
-use Rattle.idents.proofs.Fine.{Fine, fine-kids}
-use Rattle.idents.proofs.Resolving.{ctx, resolving, Other, other-node, type-node, ident-node}
+use Rattle.idents.proofs.Fine.{Fine, fine-kids, fine-opened}
+use Rattle.idents.proofs.Joined.{reads-joined}
+use Rattle.idents.proofs.Resolving.{ctx, resolving, Other, other-node, opened-node, type-node, ident-node}
 
 -- ---- what is handed on
 
@@ -53,16 +56,20 @@ module _ {part : List ℕ} {at : ℕ} {s : State} {m : Mem} (g : Ghost part at s
 pub whole-node : (t : List ℕ) (at a k v : ℕ) (kids : Forest) → Reads t at (node a k v kids nil) → (0 < sizeOf t) × (8 * sizeOf t ≡ length t)
 whole-node t at a k v kids r = (r .some, omega (arith, r .inside, ap length (r .after), length-drop (8 * sizeOf t) t))
 
--- the lists keep their lengths
-pub record Kept (m m′ : Mem) : Type 0 where
-  pub binds : length (m′ .binds) ≡ length (m .binds)
-  pub w : length (m′ .w) ≡ length (m .w)
-  pub t : length (m′ .t) ≡ length (m .t)
-
-pub long-kept : {m m′ : Mem} → Kept m m′ → Long m → Long m′
-long-kept k l = record { binds = omega (arith, k .binds, l .binds); w = k .w ∙ l .w; t = k .t ∙ l .t }
-
 -- ---- each: between one node and the next
+
+-- without the node at byte i itself the part holds its children, and then what follows it
+opened-reads : (part : List ℕ) (i n : ℕ) {f : Forest} (p : Split (drop i part) n f) → Reads (drop (i + 8) part) (n + 1) (p .kids ⊕ p .rest)
+opened-reads part i n p =
+    let t : List ℕ = drop i part in
+    let k : ℕ = sizeOf t in
+    let l : length (below t) ≡ 8 * (k - 1) = length-take-le (8 * k - 8) (drop 8 t) (omega (arith, length-drop 8 t, p .inside)) ∙ omega (arith, p .some) in
+    let z : n + k ≡ n + 1 + (k - 1) = omega (arith, p .some) in
+    let y : 8 * k ≡ 8 + (8 * k - 8) = omega (arith, p .some) in
+    let q = reads-joined (p .kids) (p .rest) (below t) (after t) (n + 1) (k - 1) l (p .under) (subst (λ (x : ℕ). Reads (after t) x (p .rest)) z (p .after)) in
+    let e : after t ≡ drop (8 * k - 8) (drop 8 t) = ap (λ (x : ℕ). drop x t) y ∙ sym (drop-drop (8 * k - 8) 8 t) in
+    let w : below t ++ after t ≡ drop (i + 8) part = ap (λ (u : List ℕ). below t ++ u) e ∙ take-append-drop (8 * k - 8) (drop 8 t) ∙ drop-drop 8 i part in
+    subst (λ (u : List ℕ). Reads u (n + 1) (p .kids ⊕ p .rest)) w q
 
 abbrev Rest : (part : List ℕ) (at : ℕ) (ty : Bool) (s₀ : State) (m₀ : Mem) (s : State) (n i : ℕ) (m : Mem) → Ghost part at s₀ m₀ → Type 0
 Rest part at ty s₀ m₀ s n i m g = Left (walk-of g ty) (λ st. R (g .W) (g .env) (g .ss) st s m) part n i (resolvedAt g ty)
@@ -114,12 +121,34 @@ module _ {part : List ℕ} {at : ℕ} {ty : Bool} {s₀ : State} {m₀ : Mem} {s
 
       pub k-more : {r : State} {m′ : Mem} → Ghost part at s₀ m₀ → Done (take (i + 8 * k - i) (drop i part)) n ty s m r m′ → Kept m m′ → Mid part at ty s₀ m₀ r (n + k) (i + 8 * k) m′
       k-more {r} {m′} g₀ x c = record {
-        long = long-kept c (d .long);
+        long = long-kept (d .long) c;
         kept = c .binds ∙ d .kept;
         number = omega (arith, d .number);
         le = omega (arith, k-node g₀ .inside);
         rest = λ g. left-more (walk-of g ty) (d .rest g) h k hk (λ st. R (g .W) (g .env) (g .ss) st r m′) (x .right (k-ghost g));
       }
+
+    -- an Other is passed over: its children come next, and then what follows it
+    pub k-into : kindOf (drop i part) ≡ 14 → Ghost part at s₀ m₀ → Mid part at ty s₀ m₀ s (n + 1) (i + 8) m
+    k-into e g₀ = record {
+      long = d .long;
+      kept = d .kept;
+      number = omega (arith, d .number);
+      le = omega (arith, k-node g₀ .inside, k-node g₀ .some);
+      rest = λ g.
+          let S = walk-of g ty in
+          let l = d .rest g in
+          let p = left-split S l h in
+          let o : Other (kindOf (drop i part)) = omega (arith, e) in
+          record {
+            f = p .kids ⊕ p .rest;
+            x = l .x;
+            reads = opened-reads part i n p;
+            fine = fine-opened n (kindOf (drop i part)) (valueOf (drop i part)) (p .kids) (p .rest) (o .0) (o .2) (subst (Fine (g .ss)) (p .is) (l .fine));
+            known = l .known;
+            same = opened-node _ _ _ n _ (valueOf (drop i part)) (p .kids) o (p .rest) _ (l .x) ∙ ap (λ (f : Forest). S .over f (l .x)) (sym (p .is)) ∙ l .same;
+          };
+    }
 
 -- ---- one node
 

@@ -1,5 +1,9 @@
 // Walk three of document 01: what each identifier means.
 // The nodes in the order of resolving: functions for statements, targets, expressions, clauses, parameters and types call one another.
+// `resolve_idents` is the original's; `idents_in_X` is its `resolve_idents_in_X`, for X = assign, expr, type_expr, def, compr:
+// shorter names, since the checker names the proof of a cycle after all of its members.
+// `idents_in_clause` is its `resolve_idents_in_for_clause`, and what it does at an IfClause;
+// `idents_in_param` is what its `resolve_idents_in_def` does at a parameter.
 ghost use mathlib.Core.Path.{_≡_};
 ghost use mathlib.Core.Bool.{true, false};
 ghost use Prim.Native.Nat.{_+_, _≤_, _<_};
@@ -22,7 +26,8 @@ fn last(part: &[u8]) -> usize
     i
 }
 
-// The nodes of a part, one after the other.
+// The nodes of a part, one after the other. An Other is passed over: its children come next. Of the rest one without children is not
+// handed on: an Ident is looked up here, any other comes to nothing.
 fn each(
     part: &[u8],
     at: usize,
@@ -41,14 +46,27 @@ fn each(
     while i < part.len() {
         let k = nodefile::size(&part[i..]) as usize;
         let e = i + 8 * k;
-        s = resolve_node(&part[i..e], n, ty, s, binds, w, t);
-        n += k;
-        i = e;
+        let here = &part[i..e];
+        let at_here = n;
+        let kind = nodefile::kind(here);
+        if kind == 14 {
+            n += 1;
+            i += 8;
+        } else {
+            n += k;
+            i = e;
+            if k > 1 {
+                s = resolve_node(here, at_here, ty, s, binds, w, t);
+            } else if kind == 11 {
+                let name = nodefile::value(here) as usize;
+                s = lookup::resolve_ident(name, at_here, ty, s, binds, w, t);
+            }
+        }
     }
     s
 }
 
-// One node: a statement, a target, an expression, a clause, a parameter or a type. In an IfClause and a Param the children come in their order.
+// One node: a statement, a target, an expression, a clause, a parameter or a type.
 pub fn resolve_node(
     part: &[u8],
     at: usize,
@@ -66,19 +84,18 @@ pub fn resolve_node(
         return resolve_idents(part, at, ty, st, binds, w, t);
     }
     if k < 11 {
-        return resolve_idents_in_assign(part, at, ty, st, binds, w, t);
+        return idents_in_assign(part, at, ty, st, binds, w, t);
     }
     if k < 15 {
-        return resolve_idents_in_expr(part, at, ty, st, binds, w, t);
+        return idents_in_expr(part, at, ty, st, binds, w, t);
     }
-    if k == 15 {
-        return resolve_idents_in_for_clause(part, at, ty, st, binds, w, t);
+    if k < 17 {
+        return idents_in_clause(part, at, ty, st, binds, w, t);
     }
-    if k < 18 {
-        let e = part.len();
-        return each(&part[8..e], at + 1, ty, st, binds, w, t);
+    if k == 17 {
+        return idents_in_param(part, at, ty, st, binds, w, t);
     }
-    resolve_idents_in_type_expr(part, at, st, binds, w, t)
+    idents_in_type_expr(part, at, st, binds, w, t)
 }
 
 // A statement.
@@ -95,14 +112,14 @@ fn resolve_idents(
     ensures { λ r. ⌜ Done (now (part .entry)) at ty st (mem (now (binds .entry)) (now (w .entry)) (now (t .entry))) r (mem (now (binds .exit)) (now (w .exit)) (now (t .exit))) ⌝ }
 {
     if nodefile::kind(part) == 6 {
-        return resolve_idents_in_def(part, at, st, binds, w, t);
+        return idents_in_def(part, at, st, binds, w, t);
     }
     let e = part.len();
     each(&part[8..e], at + 1, ty, st, binds, w, t)
 }
 
 // A target: the expressions in it.
-fn resolve_idents_in_assign(
+fn idents_in_assign(
     part: &[u8],
     at: usize,
     ty: bool,
@@ -119,7 +136,7 @@ fn resolve_idents_in_assign(
 }
 
 // An expression.
-fn resolve_idents_in_expr(
+fn idents_in_expr(
     part: &[u8],
     at: usize,
     ty: bool,
@@ -137,17 +154,17 @@ fn resolve_idents_in_expr(
         return lookup::resolve_ident(name, at, ty, st, binds, w, t);
     }
     if k == 12 {
-        return resolve_idents_in_def(part, at, st, binds, w, t);
+        return idents_in_def(part, at, st, binds, w, t);
     }
     if k == 13 {
-        return resolve_idents_in_compr(part, at, st, binds, w, t);
+        return idents_in_compr(part, at, st, binds, w, t);
     }
     let e = part.len();
     each(&part[8..e], at + 1, ty, st, binds, w, t)
 }
 
 // A type: a local directly in it is refused.
-fn resolve_idents_in_type_expr(
+fn idents_in_type_expr(
     part: &[u8],
     at: usize,
     st: State,
@@ -162,8 +179,8 @@ fn resolve_idents_in_type_expr(
     each(&part[8..e], at + 1, true, st, binds, w, t)
 }
 
-// A ForClause: its expression before its target.
-fn resolve_idents_in_for_clause(
+// A clause of a comprehension: an IfClause's expression; a ForClause's expression before its target.
+fn idents_in_clause(
     part: &[u8],
     at: usize,
     ty: bool,
@@ -172,10 +189,13 @@ fn resolve_idents_in_for_clause(
     w: &mut [u32],
     t: &mut [u16],
 ) -> State
-    requires { ⌜ PreKind 15 15 (now part) at st (mem (now binds) (now w) (now t)) ⌝ }
+    requires { ⌜ PreKind 15 16 (now part) at st (mem (now binds) (now w) (now t)) ⌝ }
     ensures { λ r. ⌜ Done (now (part .entry)) at ty st (mem (now (binds .entry)) (now (w .entry)) (now (t .entry))) r (mem (now (binds .exit)) (now (w .exit)) (now (t .exit))) ⌝ }
 {
     let e = part.len();
+    if nodefile::kind(part) == 16 {
+        return each(&part[8..e], at + 1, ty, st, binds, w, t);
+    }
     let kids = &part[8..e];
     let b = 8 * nodefile::size(kids) as usize;
     let f = kids.len();
@@ -183,8 +203,25 @@ fn resolve_idents_in_for_clause(
     resolve_node(&kids[0..b], at + 1, ty, s, binds, w, t)
 }
 
+// A parameter: its type, then its default; its Name is a target with nothing in it.
+fn idents_in_param(
+    part: &[u8],
+    at: usize,
+    ty: bool,
+    st: State,
+    binds: &mut [u64],
+    w: &mut [u32],
+    t: &mut [u16],
+) -> State
+    requires { ⌜ PreKind 17 17 (now part) at st (mem (now binds) (now w) (now t)) ⌝ }
+    ensures { λ r. ⌜ Done (now (part .entry)) at ty st (mem (now (binds .entry)) (now (w .entry)) (now (t .entry))) r (mem (now (binds .exit)) (now (w .exit)) (now (t .exit))) ⌝ }
+{
+    let e = part.len();
+    each(&part[8..e], at + 1, ty, st, binds, w, t)
+}
+
 // A Def or a Lambda: all but its last child outside, its last child inside.
-fn resolve_idents_in_def(
+fn idents_in_def(
     part: &[u8],
     at: usize,
     st: State,
@@ -207,7 +244,7 @@ fn resolve_idents_in_def(
 }
 
 // A comprehension: its first clause outside, the variables, then the rest inside.
-fn resolve_idents_in_compr(
+fn idents_in_compr(
     part: &[u8],
     at: usize,
     st: State,

@@ -1,6 +1,6 @@
 -- What a block binds (document 01, "First, the module" and "Second, each Def and Lambda"): its targets in order, each a Name that binds,
 -- and the variables that they make. One `collect` for the module, for each Def and Lambda, and for each comprehension.
-use mathlib.Core.List.{List, [], _∷_, _++_}
+use mathlib.Core.List.{List, [], _∷_, _++_, map}
 use mathlib.Core.Bool.{Bool, true, false, cond, not, _&&_, _||_}
 use Prim.Native.Nat.{ℕ}
 use lib.Dec.{eqb}
@@ -80,6 +80,10 @@ pub record Var : Type 0 where
   pub entry : Bool
   pub public : Bool
   pub any : Bool
+
+-- their names
+abbrev pub titles : List Var → List ℕ
+titles vs = map (λ (v : Var). v .name) vs
 
 unfoldable pub newVar : Target → Var
 newVar t = record { name = t .name; source = t .node; entry = false; public = t .public; any = t .any }

@@ -133,6 +133,11 @@ abbrev pub Distinct : List ℕ → Type 0
 Distinct [] = Unit {0}
 Distinct (x ∷ xs) = (In x xs → ⊥) × Distinct xs
 
+pub at-in : (xs : List ℕ) (k x : ℕ) → getElem? xs k ≡ some x → In x xs
+at-in [] k x e = absurd (none-some refl e)
+at-in (y ∷ xs) zero x e = let z : y ≡ x = cc in inl (sym z)
+at-in (y ∷ xs) (suc k) x e = inr (at-in xs k x e)
+
 pub in-snoc : (x y : ℕ) (xs : List ℕ) → In x (xs ++ (y ∷ [])) → In x xs ⊎ (x ≡ y)
 in-snoc x y [] (inl e) = inr e
 in-snoc x y (z ∷ xs) (inl e) = inl (inl e)

@@ -1,6 +1,6 @@
 -- Walk two (document 01, "Second, each Def and Lambda"): parent before children, children in table order, each function's variables get their bindings and slots.
 use mathlib.Core.List.{List, [], _∷_, _++_}
-use mathlib.Core.Bool.{cond}
+use mathlib.Core.Bool.{Bool, cond}
 use mathlib.Core.Option.{Option, none, some}
 use Prim.Native.Nat.{ℕ}
 use lib.Dec.{eqb}
@@ -27,8 +27,11 @@ unfoldable pub rowNames : Option Row → List Binding
 rowNames none = []
 rowNames (some r) = r .names
 
+abbrev pub keyed : ℕ → Row → Bool
+keyed s r = eqb (r .scope) s
+
 unfoldable pub rows : List Row → ℕ → List Binding
-rows t s = rowNames (first (λ r. eqb (r .scope) s) t)
+rows t s = rowNames (first (keyed s) t)
 
 unfoldable pub second : File → List Row × St
 second F = declare (F .names) (F .root) ([], start F)

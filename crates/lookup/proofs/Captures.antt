@@ -15,9 +15,9 @@ use Rattle.store.specs.Sections.{mem}
 use Rattle.store.specs.Flags.{withFlag}
 use Rattle.store.specs.Image.{MadeIn}
 use Rattle.store.specs.Rel.{World, Rel}
+use Rattle.store.specs.Laws.Around.{env-top}
 use Rattle.store.specs.Laws.Made.{made-few, made-owner, made-cap, made-captured}
 use Rattle.lookup.specs.Lookup.{Capturing, Captured}
-use Rattle.lookup.proofs.Levels.{stacked-top}
 
 module _ {W : World} {env : List Binding} {ss : List ℕ} {cap : ℕ → Bool} {st : St} {s : State} {binds w t : List ℕ} (rel : Rel W env ss cap st s (mem binds w t)) where
   with-made : {cap′ : ℕ → Bool} {binds′ : List ℕ} → MadeIn (st .made) cap′ binds′ t → Rel W env ss cap′ st s (mem binds′ w t)
@@ -63,7 +63,7 @@ module _ {id level : ℕ} {binds t : List ℕ} (owner scope : ℕ) (e-owner : ow
   owner-is g = e-owner ∙ (rw (g .number) (made-owner (g .rel .image .made) (g .b .id) (g .b) (g .stands)))
 
   scope-is : (g : Capturing id level binds t) → scope ≡ top (g .ss)
-  scope-is g = e-scope ∙ stacked-top level (g .ss) t (omega (arith, g .level-is, g .rel .around .level-is)) (g .rel .around .stack)
+  scope-is g = e-scope ∙ (rw (g .level-is) (env-top (g .rel .around) .0))
 
   pub noted : (binds′ : List ℕ) → 2304 ≤ length binds → (owner ≡ scope → ⊥) → binds′ ≡ set binds id (withFlag 268435456 (getD binds id 0)) → Captured id level binds t binds′
   noted binds′ long h e =

@@ -22,7 +22,7 @@ use Rattle.store.specs.Laws.Nodes.{nodes-skip}
 use Rattle.store.specs.Laws.Around.{env-skip}
 use Rattle.store.specs.Laws.Names.{names-skip, ranges-skip, scratch-skip}
 use Rattle.lookup.specs.Bring.{Reached, Copying, Copied}
-use Rattle.lookup.proofs.Growth.{over-full, never-both}
+use Rattle.store.specs.Laws.Full.{over-full, never-both}
 
 -- the stores
 abbrev pub copyStored : List ℕ → ℕ → ℕ → ℕ → ℕ → List ℕ

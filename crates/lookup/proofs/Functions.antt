@@ -17,7 +17,7 @@ use Rattle.store.specs.Laws.Points.{absent-past}
 use Rattle.store.specs.Laws.Around.{env-enter, env-leave}
 use Rattle.store.specs.Laws.Reach.{rest, with-around, rest-skip, rest-state}
 use Rattle.lookup.specs.Enter.{Entering, Entered, Leaving, Left}
-use Rattle.lookup.proofs.Growth.{never-both}
+use Rattle.store.specs.Laws.Full.{never-both}
 
 -- a local in reach stands among the bindings
 saved-stands : (env made : List Binding) (t : List ℕ) → SavedAll env made t → (k : ℕ) (b : Binding) → getElem? env k ≡ some b → getElem? made (b .id) ≡ some b

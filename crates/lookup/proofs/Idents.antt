@@ -10,13 +10,14 @@ use Rattle.lexical.specs.State.{Binding, St, Ctx, Event, Found}
 use Rattle.lexical.specs.Block.{called}
 use Rattle.lexical.specs.Third.{logged, lookFound}
 use Rattle.lexical.specs.Records.{captured, capturesFound}
+use Rattle.lexical.specs.Proof.Every.{every-bring}
 use Rattle.lexical.specs.Proof.Same.{bring-log}
 use Rattle.store.specs.declared.ids.State.{State}
 use Rattle.store.specs.declared.ids.Resolved.{Resolved}
 use Rattle.store.specs.Sections.{Mem, mem}
 use Rattle.store.specs.Rel.{R, caps, Over}
 use Rattle.lookup.specs.Lookup.{looked, capsWith, Named, NamedDone, Keeping, Kept, Ident, IdentDone}
-use Rattle.lookup.proofs.Growth.{over-bring, over-logged, never-both}
+use Rattle.store.specs.Laws.Full.{over-kept, never-both}
 use Rattle.lookup.proofs.Captures.{rel-caps}
 
 -- ---- `lexical`'s lookup is: looked up, then logged
@@ -35,7 +36,7 @@ looked-log (some b) u ss ty st = bring-log ss b st
 over-looked : (o : Option Binding) (u : Outer) (ss : List ℕ) (ty : Bool) (st : St) → Over st → Over (looked o u ss ty st .1)
 unfolding looked
 over-looked none u ss ty st v = v
-over-looked (some b) u ss ty st v = over-bring ss b st v
+over-looked (some b) u ss ty st v = every-bring Over over-kept ss b st v
 
 -- ---- `resolve_ident`
 
@@ -50,7 +51,7 @@ module _ {name at : ℕ} {s : State} {binds w t : List ℕ} (ty : Bool) where
   pub ident-over : s .full ≡ true → IdentDone name at ty s (mem binds w t) s (mem binds w t)
   ident-over f =
       done s (mem binds w t) (λ g. record {
-        over = λ _. over-logged at name (g .ss) (seen g .0) (seen g .1) (over-looked _ _ (g .ss) ty (g .st) (g .rel .over f));
+        over = λ _. over-kept .logs at name (g .ss) (seen g .0) (seen g .1) (over-looked _ _ (g .ss) ty (g .st) (g .rel .over f));
         rel = λ n. never-both f n;
       })
 
@@ -63,7 +64,7 @@ module _ {name at : ℕ} {s : State} {binds w t : List ℕ} (ty : Bool) where
       pub ident-stopped : r .st .full ≡ true → IdentDone name at ty s (mem binds w t) (r .st) (mem binds₁ w₁ t₁)
       ident-stopped f =
           done (r .st) (mem binds₁ w₁ t₁) (λ g. record {
-            over = λ _. over-logged at name (g .ss) (seen g .0) (seen g .1) (d .right (to-name g) .rel .over f);
+            over = λ _. over-kept .logs at name (g .ss) (seen g .0) (seen g .1) (d .right (to-name g) .rel .over f);
             rel = λ q. never-both f q;
           })
 

@@ -7,6 +7,7 @@ use mathlib.Core.Option.{none, some}
 use native.Mathlib.Omega.{arith}
 use lib.ListN.{getD}
 use Rattle.lexical.specs.Third.{handIn, copyIn, bring}
+use Rattle.lexical.specs.Proof.Same.{bring-made}
 use Rattle.store.specs.declared.ids.State.{State}
 use Rattle.store.specs.declared.ids.Brought.{Brought}
 use Rattle.store.specs.declared.ids.Hand.{Hand}
@@ -15,8 +16,8 @@ use Rattle.store.specs.Sections.{Mem, mem}
 use Rattle.store.specs.Hands.{handOf, Slotted}
 use Rattle.store.specs.Laws.Made.{made-few, made-slot}
 use Rattle.lookup.specs.Bring.{Copying, Copied, Bringing, Brings}
-use Rattle.lookup.proofs.Growth.{over-copy, never-both}
-use Rattle.lookup.proofs.Levels.{bring-made, bring-here, bring-copied, hand-small, hand-at, hand-nothing, Innermost, innermost, length-none}
+use Rattle.store.specs.Laws.Full.{over-kept, never-both}
+use Rattle.lookup.proofs.Levels.{bring-here, bring-copied, hand-small, hand-at, hand-nothing, Innermost, innermost, length-none}
 
 module _ {level id : ℕ} {s : State} {binds w t : List ℕ} where
   pub bring-low : Bringing level id s (mem binds w t) → level < 127
@@ -108,7 +109,7 @@ module _ {level id : ℕ} {s : State} {binds w t : List ℕ} (scope : ℕ) (e-sc
           stopped f =
               record {
                 right = λ g. rw (not-here g) (record {
-                  rel = record { over = λ _. over-copy scope (g .b) (bring (at-level g .outer) (g .b) (g .st)) (d .right (outside g) .rel .over f); rel = λ n. never-both f n };
+                  rel = record { over = λ _. over-kept .copies scope (g .b) (bring (at-level g .outer) (g .b) (g .st)) (d .right (outside g) .rel .over f); rel = λ n. never-both f n };
                   slot = λ n. never-both f n;
                   small = λ n. never-both f n;
                 });

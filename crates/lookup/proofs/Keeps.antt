@@ -25,7 +25,7 @@ use Rattle.store.specs.Laws.Slots.{slots-skip-w}
 use Rattle.store.specs.Laws.Copied.{copies-skip, errors-skip, errors-push}
 use Rattle.store.specs.Laws.Nodes.{nodes-skip, nodes-answer, nodes-quiet}
 use Rattle.lookup.specs.Lookup.{resOf, capsWith, SmallSlot, slotAnswer, ErrorAdded, Small, Keeping, Kept}
-use Rattle.lookup.proofs.Growth.{never-both}
+use Rattle.store.specs.Laws.Full.{never-both}
 use Rattle.lookup.proofs.Captures.{rel-caps}
 
 -- ---- the row that an outcome has

@@ -6,7 +6,6 @@ use mathlib.Core.Option.{Option, none, some}
 use native.Mathlib.Omega.{arith}
 use lib.ListN.{length, getD, getElem?}
 use Rattle.lexical.specs.Lists.{first, mapO, none-some, Tested, was, wasnt, tested}
-use Rattle.lexical.specs.Tree.{top}
 use Rattle.lexical.specs.State.{Binding, Slot, St}
 use Rattle.lexical.specs.Third.{holds, handIn, hand, copyIn, bringTo, bring}
 use Rattle.store.specs.declared.ids.LocalSlotId.{LocalSlotId}
@@ -15,17 +14,6 @@ use Rattle.store.specs.Hands.{handOf}
 use Rattle.store.specs.Meanings.{Stacked}
 
 -- ---- `lexical`'s bring
-
-bringTo-made : (o : Option ℕ) (s : ℕ) (b : Binding) (st : St) (r : ℕ × St) → r .1 .made ≡ st .made → bringTo o s b st r .1 .made ≡ st .made
-unfolding bringTo copyIn
-bringTo-made none s b st r e = e
-bringTo-made (some k) s b st r e = refl
-
--- no binding is made
-pub bring-made : (ss : List ℕ) (b : Binding) (st : St) → bring ss b st .1 .made ≡ st .made
-unfolding bring
-bring-made [] b st = refl
-bring-made (s ∷ ss) b st = bringTo-made (hand s (b .id) st) s b st (bring ss b st) (bring-made ss b st)
 
 pub bring-here : (s : ℕ) (ss : List ℕ) (b : Binding) (st : St) (k : ℕ) → hand s (b .id) st ≡ some k → bring (s ∷ ss) b st ≡ (k, st)
 unfolding bring bringTo
@@ -70,12 +58,6 @@ innermost level scope (x ∷ xs) t l e s =
     let z : level ≡ length xs = omega arith in
     let y : x ≡ scope = sym (e ∙ (rw z (s .0))) in
     record { outer = xs; is = rw y refl; level-is = z; small = rw (← y) (s .1); stack = s .2 }
-
--- the innermost scope
-pub stacked-top : (level : ℕ) (ss t : List ℕ) → level + 1 ≡ length ss → Stacked ss t → getD t (20736 + level) 0 ≡ top ss
-unfolding Stacked top
-stacked-top level [] t e s = absurd (omega arith)
-stacked-top level (x ∷ ss) t e s = let z : level ≡ length ss = omega arith in rw z (s .0)
 
 pub length-none : (xs : List ℕ) → length xs ≡ 0 → xs ≡ []
 length-none [] e = refl

@@ -1,4 +1,3 @@
-pub mod Growth
 pub mod Copies
 pub mod Levels
 pub mod Inward

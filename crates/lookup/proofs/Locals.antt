@@ -11,6 +11,7 @@ use Rattle.lexical.specs.State.{local}
 use Rattle.lexical.specs.Third.{bring}
 use Rattle.lexical.specs.Records.{capturesFound}
 use Rattle.lexical.specs.Code.Adds.{FoundBelow}
+use Rattle.lexical.specs.Proof.Same.{bring-made}
 use Rattle.store.specs.declared.ids.State.{State}
 use Rattle.store.specs.declared.ids.Brought.{Brought}
 use Rattle.store.specs.declared.ids.BindingId.{BindingId}
@@ -20,7 +21,6 @@ use Rattle.store.specs.Sections.{Mem, mem}
 use Rattle.store.specs.Rel.{caps}
 use Rattle.lookup.specs.Bring.{Bringing, Brings}
 use Rattle.lookup.specs.Lookup.{resOf, looked, Small, Capturing, Captured, Locally, LocalDone}
-use Rattle.lookup.proofs.Levels.{bring-made}
 
 module _ {id : ℕ} {s : State} {binds w t : List ℕ} where
   abbrev pub to-capture : Locally id s (mem binds w t) → Capturing id (s .level) binds t

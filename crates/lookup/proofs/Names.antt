@@ -23,7 +23,7 @@ use Rattle.store.specs.Meanings.{numberOf}
 use Rattle.store.specs.Rel.{caps}
 use Rattle.store.specs.Laws.Around.{number-some, number-none, saved-found}
 use Rattle.lookup.specs.Lookup.{resOf, looked, asGlobal, Small, Locally, LocalDone, InModule, ModuleDone, Named, NamedDone, Found′}
-use Rattle.lookup.proofs.Growth.{never-both}
+use Rattle.store.specs.Laws.Full.{never-both}
 use Rattle.lookup.proofs.Captures.{rel-caps}
 
 -- ---- numbers (+ 1) of what is there

@@ -22,7 +22,7 @@ use Rattle.store.specs.Rel.{Rel, caps}
 use Rattle.store.specs.Laws.Points.{absent-past}
 use Rattle.store.specs.Laws.Made.{made-few, made-slot}
 use Rattle.lookup.specs.Lookup.{resOf, Small, InModule, ModuleDone}
-use Rattle.lookup.proofs.Growth.{never-both}
+use Rattle.store.specs.Laws.Full.{never-both}
 use Rattle.lookup.proofs.Captures.{rel-noted, rel-unnoted}
 
 -- ---- the module

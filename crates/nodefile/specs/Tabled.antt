@@ -1,12 +1,13 @@
 -- A tree keeps to document 01's table of children where each node of the bytes does: its kind is at most 18, and the kinds of the
 -- nodes that its own stretch falls into are as the table allows.
 use Prim.Native.Nat.{ℕ, suc, _+_, _*_, _≤_, _<_}
-use mathlib.Core.Path.{_≡_, refl}
+use mathlib.Core.Path.{_≡_, refl, _∙_}
 use mathlib.Core.Bool.{true}
 use mathlib.Core.Option.{some}
-use mathlib.Core.List.{List, [], _∷_, _++_}
+use mathlib.Core.List.{List}
 use native.Mathlib.Omega.{arith}
 use lib.ListN.{length, drop, getElem?}
+use Rattle.base.specs.UpTo.{at-behind}
 use Rattle.lexical.specs.Places.{at-below, at-append}
 use Rattle.lexical.specs.Tree.{Forest, nil, node}
 use Rattle.lexical.specs.Table.{allowed, kinds, Tabled}
@@ -22,10 +23,6 @@ InTable s = (s .kind ≤ 18) × (allowed (s .kind) (kinds (s .kids)) ≡ true)
 abbrev pub RowKept : List ℕ → Type 0
 RowKept t = (kindOf t ≤ 18) × ((ks : List ℕ) → Kids (below t) ks → allowed (kindOf t) ks ≡ true)
 
-at-after : {A : Type 0} (xs ys : List A) (i : ℕ) (a : A) → getElem? ys i ≡ some a → getElem? (xs ++ ys) (length xs + i) ≡ some a
-at-after [] ys i a e = let z : 0 + i ≡ i = omega arith in rw z e
-at-after (x ∷ xs) ys i a e = let z : suc (length xs) + i ≡ suc (length xs + i) = omega arith in rw z (at-after xs ys i a e)
-
 tabled-spots : (f : Forest) → ((i : ℕ) (s : Spot) → getElem? (spotsIn f) i ≡ some s → InTable s) → Tabled f
 unfolding Tabled spotsIn
 tabled-spots nil h = tt
@@ -34,7 +31,7 @@ tabled-spots (node a k v ks rs) h =
       here .0,
       here .1,
       tabled-spots ks (λ i s e. h (suc i) s (at-append (spotsIn ks) (spotsIn rs) i s e)),
-      tabled-spots rs (λ i s e. h (suc (length (spotsIn ks) + i)) s (at-after (spotsIn ks) (spotsIn rs) i s e)),
+      tabled-spots rs (λ i s e. h (suc (length (spotsIn ks) + i)) s (at-behind (spotsIn ks) (spotsIn rs) i ∙ e)),
     )
 
 pub reads-tabled : (f : Forest) (t : List ℕ) (at : ℕ) → Reads t at f → ((i : ℕ) → 8 * i < length t → RowKept (drop (8 * i) t)) → Tabled f

@@ -8,6 +8,7 @@ use mathlib.Core.Option.{Option, none, some}
 use lib.ListN.{length, getD, getElem?, drop}
 use Rattle.lexical.specs.Lists.{place}
 use Rattle.lexical.specs.Binders.{Target, Var, merge}
+pub use Rattle.lexical.specs.Binders.{titles}
 use Rattle.lexical.specs.Module.{Entry, File, entryVar}
 use Rattle.lexical.specs.State.{Binding, Slot, St}
 use Rattle.lexical.specs.Block.{fresh, slotFor, nameOf}
@@ -42,9 +43,6 @@ nothing = record { made = []; named = []; slots = []; copies = []; log = [] }
 -- the module
 unfoldable pub moduleBlock : File → BlockEnv
 moduleBlock F = record { scope = 0; first = 0; local = false; slotAt = moduleSlot [] (F .entries); vars = map entryVar (F .entries); st = nothing }
-
-abbrev pub titles : List Var → List ℕ
-titles vs = map (λ (v : Var). v .name) vs
 
 module _ (E : BlockEnv) where
   -- the binding of the k-th variable

@@ -1,4 +1,6 @@
 -- What a store in a section does to the relation.
+pub mod Lengths
+pub mod Full
 pub mod Points
 pub mod Made
 pub mod Chain

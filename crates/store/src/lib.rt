@@ -4,6 +4,7 @@ mod ids;
 mod meanings;
 mod records;
 mod slots;
+mod wide;
 
 pub use ids::BindingId;
 pub use ids::Block;

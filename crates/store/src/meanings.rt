@@ -1,17 +1,12 @@
 // What names mean, by name; what belongs to a binding, a scope and a level.
 ghost use mathlib.Core.Path.{_≡_};
-ghost use mathlib.Core.Bool.{Bool, true, false, cond};
-ghost use Prim.Native.Nat.{_+_, _*_, _/_, _%_, _≤_, _<_};
+ghost use mathlib.Core.Bool.{cond};
+ghost use Prim.Native.Nat.{_+_, _/_, _≤_, _<_};
 ghost use lib.ListN.{length, getD, set};
 ghost use lib.Dec.{eqb};
 ghost use Rattle.store.specs.Scoping.{Opening, Opened, Closing, Closed};
 use crate::records;
-
-fn wide(x: u16) -> usize
-    ensures { λ r. ⌜ (r ≡ x) × (r < 65536) ⌝ }
-{
-    x as usize
-}
+use crate::wide::wide;
 
 // The innermost local of a name, plus one.
 pub fn current(t: &[u16], name: usize) -> usize

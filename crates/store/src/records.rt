@@ -1,6 +1,5 @@
 // The bindings' records, the nodes' answers and the errors.
 ghost use mathlib.Core.Path.{_≡_};
-ghost use mathlib.Core.Bool.{Bool, true, false};
 ghost use Prim.Native.Nat.{_+_, _*_, _/_, _%_, _≤_, _<_};
 ghost use lib.ListN.{length, getD, set};
 ghost use Rattle.lexical.specs.Records.{bit};

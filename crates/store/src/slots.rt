@@ -7,12 +7,7 @@ ghost use Rattle.store.specs.Words.{pairWord};
 ghost use Rattle.store.specs.Hands.{handOf, Slotted};
 use crate::ids::Hand;
 use crate::ids::LocalSlotId;
-
-fn wide(x: u16) -> usize
-    ensures { λ r. ⌜ (r ≡ x) × (r < 65536) ⌝ }
-{
-    x as usize
-}
+use crate::wide::wide;
 
 // The slot that the next variable of a scope gets.
 pub fn fresh_slot(w: &[u32], scope: usize) -> usize

@@ -2,18 +2,13 @@
 use Prim.Native.Nat.{ℕ, zero, suc, _+_, _<_}
 use mathlib.Core.Path.{_≡_, refl, ap}
 use mathlib.Core.List.{List, [], _∷_, _++_, map}
-use mathlib.Core.Option.{Option, none, some}
+use mathlib.Core.Option.{some}
 use native.Mathlib.Omega.{arith}
 use native.Mathlib.Nat.{zero-add}
 use lib.ListN.{length, getElem?, set}
-use Rattle.lexical.specs.Lists.{mapO, none-some}
 use Rattle.store.specs.Laws.Points.{Replaced}
 
 module _ {A : Type 0} where
-  pub at-behind : (xs ys : List A) (i : ℕ) → getElem? (xs ++ ys) (length xs + i) ≡ getElem? ys i
-  at-behind [] ys i = rw zero-add refl
-  at-behind (x ∷ xs) ys i = let e : suc (length xs) + i ≡ suc (length xs + i) = omega arith in rw e (at-behind xs ys i)
-
   pub replaced-set : (xs : List A) (k : ℕ) (a : A) → k < length xs → Replaced k a xs (set xs k a)
   replaced-set [] k a h = absurd (omega arith)
   replaced-set (x ∷ xs) zero a h = record { here = refl; other = λ i o. go i o }
@@ -47,8 +42,3 @@ map-set f (z ∷ xs) (suc k) x y e q = ap (λ (l : List _). f z ∷ l) (map-set 
 pub map-like : {A B : Type 0} (f g : A → B) (xs : List A) → ((j : ℕ) (x : A) → getElem? xs j ≡ some x → f x ≡ g x) → map f xs ≡ map g xs
 map-like f g [] h = refl
 map-like f g (x ∷ xs) h = rw (h 0 x refl, map-like f g xs (λ j y e. h (suc j) y e)) refl
-
-pub mapO-some : {A B : Type 0} (f : A → B) (o : Option A) (b : B) → mapO f o ≡ some b → (a : A) × (o ≡ some a) × (f a ≡ b)
-unfolding mapO
-mapO-some f none b e = absurd (none-some refl e)
-mapO-some f (some a) b e = (a, refl, cc)

@@ -7,6 +7,7 @@ use mathlib.Core.List.{List, [], _∷_, _++_, map, map-append, map-map, append-a
 use mathlib.Core.Option.{none, some}
 use native.Mathlib.Omega.{arith}
 use lib.ListN.{length, getElem?, set, length-append, length-map}
+use Rattle.base.specs.UpTo.{at-behind}
 use Rattle.lexical.specs.Lists.{place, first, mapO, Tested, was, wasnt, tested, Opened, absent, present, opened}
 use Rattle.lexical.specs.Places.{at-below}
 use Rattle.lexical.specs.Binders.{Target, Var, newVar, again}
@@ -16,14 +17,15 @@ use Rattle.lexical.specs.Records.{nameRow}
 use Rattle.lexical.specs.Records.{titleRow}
 use Rattle.lexical.specs.Code.Collect.{merge-append}
 use Rattle.lexical.specs.Code.Grows.{Longer}
+use Rattle.lexical.specs.Code.Notes.{merge-snoc}
 use Rattle.lexical.specs.Proof.Slots.{fresh-at}
 use Rattle.store.specs.Words.{answerWord, rowWord}
 use Rattle.store.specs.Rel.{Over, many-slots, many-bindings, many-errors}
 use Rattle.store.specs.Blocks.{BlockEnv, titles, placed, placedFrom, varsOf, bindingsOf, slotsOf, blockSt}
 use Rattle.store.specs.Laws.Points.{Replaced}
 use Rattle.store.specs.Laws.Made.{boundAgain}
-use Rattle.target.specs.Alike.{at-behind, replaced-set, replaced-behind, map-set, map-like}
-use Rattle.target.specs.Noted.{merge-snoc, note-new, note-known, merge-place, merge-own, merge-length}
+use Rattle.target.specs.Alike.{replaced-set, replaced-behind, map-set, map-like}
+use Rattle.target.specs.Noted.{note-new, note-known, merge-place, merge-own, merge-length}
 use Rattle.store.specs.Laws.Placed.{placed-length, placed-snoc}
 use Rattle.target.specs.Placed.{placed-at, placed-set, placeRow, row-placed}
 

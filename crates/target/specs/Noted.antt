@@ -1,6 +1,6 @@
 -- One target more in a block's variables: a name that the block has is changed where it stands, a new one stands at the end.
 use Prim.Native.Nat.{ℕ, zero, suc, _≤_}
-use mathlib.Core.Path.{_≡_, refl, ap, _∙_}
+use mathlib.Core.Path.{_≡_, refl, ap}
 use mathlib.Core.Bool.{true, false, cond}
 use mathlib.Core.List.{List, [], _∷_, _++_, map-append}
 use mathlib.Core.Option.{Option, none, some}
@@ -9,7 +9,6 @@ use lib.Dec.{eqb}
 use lib.ListN.{length, getElem?, set, length-append, length-set}
 use Rattle.lexical.specs.Lists.{place, mapO, orElse, orElse-none, none-some, eqb-true, eqb-self, eqb-not, Tested, was, wasnt, tested, Opened, absent, present, opened}
 use Rattle.lexical.specs.Binders.{Target, Var, newVar, again, note, merge}
-use Rattle.lexical.specs.Code.Collect.{merge-append}
 use Rattle.store.specs.Blocks.{titles}
 use Rattle.store.specs.Laws.Names.{place-snoc}
 use Rattle.target.specs.Alike.{map-set}
@@ -63,9 +62,6 @@ pub place-other : (n x : ℕ) (xs : List ℕ) → (x ≡ n → ⊥) → place n 
 place-other n x xs h = rw (place-snoc n x xs, eqb-not x n h) (orElse-none (place n xs))
 
 -- ---- one target more
-
-pub merge-snoc : (vs : List Var) (ts : List Target) (t : Target) → merge vs (ts ++ (t ∷ [])) ≡ note t (merge vs ts)
-merge-snoc vs ts t = merge-append vs ts (t ∷ []) ∙ (unfold merge in refl)
 
 -- a new name
 pub note-new : (t : Target) (vs : List Var) → place (t .name) (titles vs) ≡ none → note t vs ≡ vs ++ (newVar t ∷ [])

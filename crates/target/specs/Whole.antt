@@ -6,7 +6,9 @@ use mathlib.Core.List.{List, [], _∷_, _++_, map, append-assoc, append-nil}
 use mathlib.Core.Option.{some}
 use native.Mathlib.Omega.{arith}
 use lib.ListN.{length, getElem?, length-append}
+use Rattle.base.specs.UpTo.{at-behind}
 use Rattle.lexical.specs.Lists.{place}
+use Rattle.lexical.specs.Places.{mapO-some}
 use Rattle.lexical.specs.Binders.{Target, Var, merge}
 use Rattle.lexical.specs.State.{Binding, St}
 use Rattle.lexical.specs.Block.{fresh, slotFor, new, add, bind, naming, block}
@@ -16,7 +18,6 @@ use Rattle.store.specs.Sections.{Mem}
 use Rattle.store.specs.Meanings.{Range}
 use Rattle.store.specs.Rel.{World, Rel, R, caps}
 use Rattle.store.specs.Blocks.{BlockEnv, localBlock, placed, placedFrom, varsOf, bindingsOf, slotsOf, blockSt, blockWorld, KnownAs, BlockFacts, InBlock, RB}
-use Rattle.target.specs.Alike.{at-behind, mapO-some}
 use Rattle.store.specs.Laws.Placed.{placed-length}
 use Rattle.target.specs.Placed.{placed-at}
 use Rattle.target.specs.Blocks.{made-count}

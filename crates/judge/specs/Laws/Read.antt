@@ -11,7 +11,7 @@ use native.Mathlib.Omega.{arith}
 use borrow.Author.Tests.{lt-ltb, le-ltb}
 use lib.Dec.{eqb, ltb, T}
 use lib.ListN.{length, drop, getElem?, replicate, length-replicate}
-use Rattle.base.specs.UpTo.{upTo, at-right}
+use Rattle.base.specs.UpTo.{upTo, at-behind}
 use Rattle.base.specs.Table.{at as tested-at}
 use Rattle.bits.specs.FieldLaws.{field-take}
 use Rattle.lexical.specs.Places.{at-append, at-below}
@@ -29,16 +29,13 @@ use Rattle.judge.specs.Accepted.{Each}
 
 -- ---- every node
 
-at-after : {A : Type 0} (xs ys : List A) (i : ℕ) (a : A) → getElem? ys i ≡ some a → getElem? (xs ++ ys) (length xs + i) ≡ some a
-at-after xs ys i a e = let z : length xs + i - length xs ≡ i = omega arith in at-right xs ys (length xs + i) (omega arith) ∙ rw z e
-
 pub each-spots : (P : Spot → Type 0) (f : Forest) → ((i : ℕ) (s : Spot) → getElem? (spotsIn f) i ≡ some s → P s) → Each P f
 unfolding spotsIn
 each-spots P nil h = tt
 each-spots P (node a k v ks rs) h = (
   h 0 _ refl,
   each-spots P ks (λ i s e. h (suc i) s (at-append (spotsIn ks) (spotsIn rs) i s e)),
-  each-spots P rs (λ i s e. h (suc (length (spotsIn ks) + i)) s (at-after (spotsIn ks) (spotsIn rs) i s e)),
+  each-spots P rs (λ i s e. h (suc (length (spotsIn ks) + i)) s (at-behind (spotsIn ks) (spotsIn rs) i ∙ e)),
 )
 
 -- ---- scope numbers

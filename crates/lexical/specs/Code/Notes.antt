@@ -9,14 +9,13 @@ use native.Mathlib.Omega.{arith}
 use lib.ListN.{length, drop, set, getElem?, length-append}
 use Rattle.lexical.specs.Lists.{none-some, eqb-self, eqb-not}
 use Rattle.lexical.specs.Places.{In, Distinct}
-use Rattle.lexical.specs.Binders.{Target, Var, newVar, again, note, merge}
+use Rattle.lexical.specs.Binders.{Target, Var, titles, newVar, again, note, merge}
 use Rattle.lexical.specs.Module.{Entry}
 use Rattle.lexical.specs.State.{Binding, St}
 use Rattle.lexical.specs.Block.{fresh, slotFor, new, add, bind}
 use Rattle.lexical.specs.First.{nextSlot, entrySlot, moduleBinding, moduleBindings}
 use Rattle.lexical.specs.Code.Adds.{nth, add-count}
 use Rattle.lexical.specs.Code.Collect.{merge-append}
-use Rattle.lexical.specs.Proof.Apart.{titles}
 
 pub merge-snoc : (vs : List Var) (ts : List Target) (t : Target) → merge vs (ts ++ (t ∷ [])) ≡ note t (merge vs ts)
 merge-snoc vs ts t = merge-append vs ts (t ∷ []) ∙ (unfold merge in refl)

@@ -7,15 +7,12 @@ use Prim.Native.Nat.{ℕ}
 use lib.Dec.{eqb}
 use Rattle.lexical.specs.Lists.{eqb-false, Tested, was, wasnt, tested}
 use Rattle.lexical.specs.Places.{In, Distinct, distinct-snoc}
-use Rattle.lexical.specs.Binders.{Target, Var, newVar, again, note, merge}
+use Rattle.lexical.specs.Binders.{Target, Var, titles, newVar, again, note, merge}
 use Rattle.lexical.specs.Module.{Entry, File, entryVar, moduleVars}
 use Rattle.lexical.specs.State.{Binding, St}
 use Rattle.lexical.specs.Block.{new, add, bind, block}
 use Rattle.lexical.specs.First.{moduleBindings, start}
 use Rattle.lexical.specs.Proof.Modules.{module-vars}
-
-abbrev pub titles : List Var → List ℕ
-titles vs = map (λ (v : Var). v .name) vs
 
 abbrev pub called-as : List Binding → List ℕ
 called-as bs = map (λ (b : Binding). b .var .name) bs

@@ -2,10 +2,9 @@
 use mathlib.Core.Path.{_≡_, refl, sym, _∙_, ap}
 use mathlib.Core.Logic.{inl}
 use mathlib.Core.List.{List, [], _∷_, _++_, map, append-assoc, append-nil}
-use mathlib.Core.Bool.{cond, Bool}
+use mathlib.Core.Bool.{cond}
 use mathlib.Core.Option.{none, some}
 use Prim.Native.Nat.{ℕ}
-use lib.Dec.{eqb}
 use Rattle.lexical.specs.Lists.{If, either, first, eqb-self, eqb-not, first-old, first-here, first-other}
 use Rattle.lexical.specs.Places.{In, Distinct, in-left, in-right, distinct-left, distinct-right, disjoint}
 use Rattle.lexical.specs.Tree.{isFn, listed, when, Forest, nil, node, empty, Way, way, scopesIn}
@@ -14,7 +13,7 @@ use Rattle.lexical.specs.Meaning.{declares, owned}
 use Rattle.lexical.specs.Order.{blockNames, allNames, allNames-append, fnBlocks}
 use Rattle.lexical.specs.State.{Binding, St, Row}
 use Rattle.lexical.specs.Block.{bind, naming, block, called}
-use Rattle.lexical.specs.Second.{declareFn, declareHere, declare}
+use Rattle.lexical.specs.Second.{declareFn, declareHere, declare, keyed}
 use Rattle.lexical.specs.Claims.{Titled, nameView}
 use Rattle.lexical.specs.Proof.Brought.{Home, home-ext, Bound, blocked, titled-block}
 use Rattle.lexical.specs.Proof.Fine.{Fine}
@@ -22,9 +21,6 @@ use Rattle.lexical.specs.Proof.Induct.{AllFn, Good, innerScope, good-map
 use Rattle.lexical.specs.Proof.Lead.{Ext, Ext-refl, Ext-trans}
 use Rattle.lexical.specs.Proof.Means.{homeIn, home-bind, source-vars, block-names}
 use Rattle.lexical.specs.Proof.Same.{bind-log, bind-copies}
-
-abbrev pub keyed : ℕ → Row → Bool
-keyed s r = eqb (r .scope) s
 
 pub record RowOk (tbl : List Row) (st : St) (o s : ℕ) (ts : List Target) : Type 0 where
   pub row : Row

@@ -11,12 +11,12 @@ use Rattle.lexical.specs.Lists.{eqb-true, eqb-false, eqb-not, Tested, wa
 use Rattle.lexical.specs.Places.{In, Distinct, disjoint}
 use Rattle.lexical.specs.Tree.{Forest, nil, node, empty, after, pick, shut, params}
 use Rattle.lexical.specs.Table.{Exprs, Item, one, opt, many, row, within, headIn, dropOne, dropMany, isEmpty, matches, allowed, kinds, Tabled, ownName, paramNames}
-use Rattle.lexical.specs.Binders.{Names, Marks, Target, target, collect, unmarked, targets, Var, newVar, note, merge}
+use Rattle.lexical.specs.Binders.{Names, Marks, Target, target, collect, unmarked, targets, Var, titles, newVar, note, merge}
 use Rattle.lexical.specs.Claims.{ParamsFirst}
 use Rattle.lexical.specs.Code.Collect.{collect-name, collect-param, merge-append, asParam}
 use Rattle.lexical.specs.Code.Notes.{note-new}
 use Rattle.lexical.specs.Code.Whole.{exprs-none}
-use Rattle.lexical.specs.Proof.Apart.{titles, noted}
+use Rattle.lexical.specs.Proof.Apart.{noted}
 use Rattle.lexical.specs.Proof.Slots.{both-true}
 use Rattle.lexical.specs.Proof.Tabled.{in-range, expr-shut}
 

@@ -58,11 +58,11 @@ table-def : (f : Forest) → allowed 6 (kinds f) ≡ true → FirstName f
 unfolding allowed row matches
 table-def f e = named f (both-true (headIn 8 8 (kinds f)) _ e .0)
 
-table-name : (f : Forest) → allowed 8 (kinds f) ≡ true → f ≡ nil
+pub table-name : (f : Forest) → allowed 8 (kinds f) ≡ true → f ≡ nil
 unfolding allowed row matches
 table-name f e = no-kids f e
 
-table-ident : (f : Forest) → allowed 11 (kinds f) ≡ true → f ≡ nil
+pub table-ident : (f : Forest) → allowed 11 (kinds f) ≡ true → f ≡ nil
 unfolding allowed row matches
 table-ident f e = no-kids f e
 
@@ -74,7 +74,7 @@ table-type : (f : Forest) → allowed 18 (kinds f) ≡ true → Exprs f
 unfolding allowed row matches
 table-type f e = one-expr f e
 
-at-kind : (k n : ℕ) (f : Forest) → allowed k (kinds f) ≡ true → k ≡ n → allowed n (kinds f) ≡ true
+pub at-kind : (k n : ℕ) (f : Forest) → allowed k (kinds f) ≡ true → k ≡ n → allowed n (kinds f) ≡ true
 at-kind k n f e q = rw (← q) e
 
 pub tabled-tidy : (f : Forest) → Tabled f → Tidy f

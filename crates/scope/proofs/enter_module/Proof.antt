@@ -2,16 +2,11 @@
 -- `scope::enter_module` meets its contract: each walk is handed what the one before it gives.
 -- Assumes nothing.
 use mathlib.Core.Path.{_∙_}
-use Rattle.scope.proofs.Passes.{one-pre, two-pre, three-pre, ended, long-kept}
+use Rattle.store.specs.Laws.Lengths.{long-kept}
+use Rattle.scope.proofs.Passes.{one-pre, two-pre, three-pre, ended}
 -- END
-use borrow.Author.Needs.{needs}
 use Rattle.scope.proofs.enter_module.Statement.{statement}
 use Rattle.scope.proofs.enter_module.Tie as tie
-use Rattle.scope.proofs.enter_module.Reads as reads
-use Rattle.scope.proofs.enter_module.Lts as lts
-use Rattle.collect.proofs.collect_defines_recursively.Reads as collect-defines-recursively-reads
-use Rattle.collect.proofs.collect_module.Reads as collect-module-reads
-use Rattle.idents.proofs.resolve_node.Reads as resolve-node-reads
 
 -- src/lib.rt:36:9
 collect-module-requires : tie.Need-collect-module-requires
@@ -19,11 +14,11 @@ collect-module-requires c κs = one-pre ((c .before .before .before .before .bef
 
 -- src/lib.rt:38:9
 collect-defines-recursively-requires : tie.Need-collect-defines-recursively-requires
-collect-defines-recursively-requires c κs = two-pre ((c .before .before .before .before .before .before .before .before .before .before .before .before .before .before .before .before .before .pre) .ghost) ((c .before .before .before .before .before .before .before .before .before .collect-module) .ensures) (long-kept ((c .before .before .before .before .before .before .before .before .before .before .before .before .before .before .before .before .before .pre) .long) ((c .before .before .before .before .before .before .before .before .before .collect-module) .kept .1 .1 .0) ((c .before .before .before .before .before .before .before .before .before .collect-module) .kept .1 .1 .1 .0) ((c .before .before .before .before .before .before .before .before .before .collect-module) .kept .1 .1 .1 .1 .0))
+collect-defines-recursively-requires c κs = two-pre ((c .before .before .before .before .before .before .before .before .before .before .before .before .before .before .before .before .before .pre) .ghost) ((c .before .before .before .before .before .before .before .before .before .collect-module) .ensures) (long-kept ((c .before .before .before .before .before .before .before .before .before .before .before .before .before .before .before .before .before .pre) .long) (record { binds = (c .before .before .before .before .before .before .before .before .before .collect-module) .kept .1 .1 .0; w = (c .before .before .before .before .before .before .before .before .before .collect-module) .kept .1 .1 .1 .0; t = (c .before .before .before .before .before .before .before .before .before .collect-module) .kept .1 .1 .1 .1 .0 }))
 
 -- src/lib.rt:39:9
 resolve-node-requires : tie.Need-resolve-node-requires
-resolve-node-requires c κs = three-pre ((c .before .before .before .before .before .before .before .before .before .before .before .before .before .before .before .before .before .before .before .before .before .before .before .before .before .before .before .pre) .ghost) ((c .before .before .before .before .before .before .before .before .before .before .before .before .before .before .before .before .before .before .before .collect-module) .ensures) ((c .before .before .before .before .before .before .before .before .before .collect-defines-recursively) .ensures) (long-kept ((c .before .before .before .before .before .before .before .before .before .before .before .before .before .before .before .before .before .before .before .before .before .before .before .before .before .before .before .pre) .long) ((c .before .before .before .before .before .before .before .before .before .collect-defines-recursively) .kept .1 .1 .0 ∙ (c .before .before .before .before .before .before .before .before .before .before .before .before .before .before .before .before .before .before .before .collect-module) .kept .1 .1 .0) ((c .before .before .before .before .before .before .before .before .before .collect-defines-recursively) .kept .1 .1 .1 .0 ∙ (c .before .before .before .before .before .before .before .before .before .before .before .before .before .before .before .before .before .before .before .collect-module) .kept .1 .1 .1 .0) ((c .before .before .before .before .before .before .before .before .before .collect-defines-recursively) .kept .1 .1 .1 .1 .0 ∙ (c .before .before .before .before .before .before .before .before .before .before .before .before .before .before .before .before .before .before .before .collect-module) .kept .1 .1 .1 .1 .0))
+resolve-node-requires c κs = three-pre ((c .before .before .before .before .before .before .before .before .before .before .before .before .before .before .before .before .before .before .before .before .before .before .before .before .before .before .before .pre) .ghost) ((c .before .before .before .before .before .before .before .before .before .before .before .before .before .before .before .before .before .before .before .collect-module) .ensures) ((c .before .before .before .before .before .before .before .before .before .collect-defines-recursively) .ensures) (long-kept ((c .before .before .before .before .before .before .before .before .before .before .before .before .before .before .before .before .before .before .before .before .before .before .before .before .before .before .before .pre) .long) (record { binds = (c .before .before .before .before .before .before .before .before .before .collect-defines-recursively) .kept .1 .1 .0 ∙ (c .before .before .before .before .before .before .before .before .before .before .before .before .before .before .before .before .before .before .before .collect-module) .kept .1 .1 .0; w = (c .before .before .before .before .before .before .before .before .before .collect-defines-recursively) .kept .1 .1 .1 .0 ∙ (c .before .before .before .before .before .before .before .before .before .before .before .before .before .before .before .before .before .before .before .collect-module) .kept .1 .1 .1 .0; t = (c .before .before .before .before .before .before .before .before .before .collect-defines-recursively) .kept .1 .1 .1 .1 .0 ∙ (c .before .before .before .before .before .before .before .before .before .before .before .before .before .before .before .before .before .before .before .collect-module) .kept .1 .1 .1 .1 .0 }))
 
 -- src/lib.rt:27:1
 same-length : tie.Need-same-length

@@ -1,20 +1,20 @@
 -- A file that judging accepts is ready: node by node what the walks need, and its lists.
-use Prim.Native.Nat.{ℕ, zero, suc, _+_, _*_, _<_, _≤_}
+use Prim.Native.Nat.{ℕ, zero, suc, _*_, _<_, _≤_}
 use mathlib.Core.Path.{_≡_, refl, sym, ap, _∙_, subst}
 use mathlib.Core.Logic.{inl, inr}
-use mathlib.Core.Bool.{Bool, true, false, cond, _&&_}
+use mathlib.Core.Bool.{true, false, cond}
 use mathlib.Core.List.{List, [], _∷_}
 use mathlib.Core.Option.{some}
 use native.Mathlib.Omega.{arith}
 use lib.ListN.{length, getElem?, length-drop}
 use Rattle.base.specs.UpTo.{upTo-at}
-use Rattle.lexical.specs.Lists.{none-some, eqb-self}
-use Rattle.lexical.specs.Places.{In, Distinct, in-left, in-right}
+use Rattle.lexical.specs.Lists.{none-some}
+use Rattle.lexical.specs.Places.{In, Distinct, in-left, in-right, at-in}
 use Rattle.lexical.specs.Tree.{Forest, nil, node, isFn, way, when, listed, nodesIn, scopesIn}
-use Rattle.lexical.specs.Table.{one, opt, many, row, within, headIn, dropOne, dropMany, isEmpty, matches, allowed, kinds}
+use Rattle.lexical.specs.Table.{one, opt, many, row, within, headIn, dropOne, dropMany, matches, allowed, kinds}
 use Rattle.lexical.specs.Proof.Slots.{both-true}
-use Rattle.lexical.specs.Proof.Tabled.{in-range}
-use Rattle.nodefile.specs.Layout.{nodeCount, nameCount, entryCount, globalCount, nodesOf, entriesOf, globalsOf}
+use Rattle.lexical.specs.Proof.Tabled.{in-range, table-name, table-ident, at-kind}
+use Rattle.nodefile.specs.Layout.{nameCount, entryCount, globalCount, nodesOf, entriesOf, globalsOf}
 use Rattle.nodefile.specs.Lists.{entryName, globalName}
 use Rattle.nodefile.specs.Node.{sizeOf}
 use Rattle.nodefile.specs.Reads.{Reads, reads-one}
@@ -24,7 +24,7 @@ use Rattle.store.specs.Valid.{Valid, Some, NameFirst}
 use Rattle.note.specs.Noted.{ListsOk}
 use Rattle.judge.specs.Cond.{Judged}
 use Rattle.judge.specs.Lists.{entryNames, globalNames}
-use Rattle.judge.specs.Accepted.{ListOk, NodeOk, Each, Accepted}
+use Rattle.judge.specs.Accepted.{NodeOk, Each, Accepted}
 use Rattle.judge.specs.Theorems.{accepted, accepted-tabled}
 use Rattle.scope.specs.Ready.{Ready}
 
@@ -32,19 +32,6 @@ use Rattle.scope.specs.Ready.{Ready}
 
 false-true : {P : Type 0} → false ≡ true → P
 false-true e = absurd (let z : _≡_ {A = ℕ} 0 1 = cc in omega arith)
-
-no-kids : (f : Forest) → isEmpty (kinds f) ≡ true → f ≡ nil
-unfolding kinds isEmpty
-no-kids nil e = refl
-no-kids (node at k v kids rest) e = false-true e
-
-table-name : (f : Forest) → allowed 8 (kinds f) ≡ true → f ≡ nil
-unfolding allowed row matches
-table-name f e = no-kids f e
-
-table-ident : (f : Forest) → allowed 11 (kinds f) ≡ true → f ≡ nil
-unfolding allowed row matches
-table-ident f e = no-kids f e
 
 body : (f : Forest) → matches (many 17 17 ∷ opt 18 18 ∷ one 0 7 ∷ []) (kinds f) ≡ true → Some f
 unfolding matches kinds headIn dropOne dropMany Some
@@ -71,9 +58,6 @@ unfolding allowed row matches kinds headIn dropOne dropMany Some
 table-clause nil e = false-true e
 table-clause (node at k v kids rest) e = tt
 
-at-kind : (k n : ℕ) (f : Forest) → allowed k (kinds f) ≡ true → k ≡ n → allowed n (kinds f) ≡ true
-at-kind k n f e q = rw (← q) e
-
 -- ---- node by node
 
 node-ready : {names at k v : ℕ} {kids : Forest} → names ≤ 1024 → at < 2048 → (isFn (way k) ≡ true → v < 256) → NodeOk names (record { number = at; kind = k; value = v; kids = kids }) → store.NodeOk at k v kids
@@ -99,11 +83,6 @@ valid-each names h (node at k v kids rest) e a b = (
 )
 
 -- ---- its lists
-
-at-in : (xs : List ℕ) (k x : ℕ) → getElem? xs k ≡ some x → In x xs
-at-in [] k x e = absurd (none-some refl e)
-at-in (y ∷ xs) zero x e = let z : y ≡ x = cc in inl (sym z)
-at-in (y ∷ xs) (suc k) x e = inr (at-in xs k x e)
 
 distinct-at : (xs : List ℕ) → Distinct xs → (j k x : ℕ) → j < k → getElem? xs j ≡ some x → getElem? xs k ≡ some x → ⊥
 distinct-at [] d j k x h a b = none-some refl a

@@ -9,6 +9,7 @@ use lib.ListN.{length, getD, set, getElem?, length-set}
 use lib.Seq.{getD-set-same, getD-set-other}
 use Rattle.lexical.specs.Lists.{first, mapO, eqb-self, eqb-not, none-some, Tested, was, wasnt, tested}
 use Rattle.lexical.specs.Places.{at-append, at-below}
+use Rattle.lexical.specs.Tree.{top}
 use Rattle.lexical.specs.State.{Binding}
 use Rattle.lexical.specs.Block.{called}
 use Rattle.store.specs.Sections.{plus}
@@ -149,6 +150,7 @@ unfolding Stacked
 env-leave l e m = record { cur = m .cur; saved = m .saved; stack = m .stack .2; level-is = e; low = omega (arith, m .low) }
 
 -- the innermost scope: `scope_at_level`
-pub env-top : {env : List Binding} {s : ℕ} {ss : List ℕ} {made : List Binding} {level : ℕ} {t : List ℕ} → EnvIn env (s ∷ ss) made level t → (getD t (20736 + level) 0 ≡ s) × (s < 256)
-unfolding Stacked
-env-top {ss = ss} {level = level} m = let e : level ≡ length ss = omega (arith, m .level-is) in (rw e (m .stack .0), m .stack .1)
+pub env-top : {env : List Binding} {ss : List ℕ} {made : List Binding} {level : ℕ} {t : List ℕ} → EnvIn env ss made level t → (getD t (20736 + level) 0 ≡ top ss) × (top ss < 256)
+unfolding Stacked top
+env-top {ss = []} m = absurd (omega (arith, m .level-is))
+env-top {ss = s ∷ ss} {level = level} m = let e : level ≡ length ss = omega (arith, m .level-is) in (rw e (m .stack .0), m .stack .1)

@@ -41,7 +41,7 @@ loop-less c = omega (arith, w-long ((c .before .before .before .before .before .
 loop-again : tie.Need-loop-again Inv-loop μ-loop
 loop-again c =
     let k = (c .before .before .before .before .before .before .declare-node) in
-    w-more ((c .before .before .before .before .before .before .before .before .before .before .before .before .loop) .inv) ((c .before .before .before .before .before .before .before .before .before .before .before .loop-test) .taken) (k .kept .1 .1 .1 .0) (k .kept .1 .1 .1 .1 .0) (k .kept .1 .1 .1 .1 .1 .0) ((c .before .before .before .before .before .before .before .before .before .before .before .before .before .before .before .before .before .pre) .ghost) (k .ensures)
+    w-more ((c .before .before .before .before .before .before .before .before .before .before .before .before .loop) .inv) ((c .before .before .before .before .before .before .before .before .before .before .before .loop-test) .taken) {m′ = mem (k .last .1 .1 .1 .0) (k .last .1 .1 .1 .1 .0) (k .last .1 .1 .1 .1 .1 .0)} (record { binds = k .kept .1 .1 .1 .0; w = k .kept .1 .1 .1 .1 .0; t = k .kept .1 .1 .1 .1 .1 .0 }) ((c .before .before .before .before .before .before .before .before .before .before .before .before .before .before .before .before .before .pre) .ghost) (k .ensures)
 
 same-length : tie.Need-same-length Inv-loop μ-loop
 same-length c = (c .before .loop) .inv .kept

@@ -1,7 +1,7 @@
 -- `collect::declare::declare_node` meets its contract: a Def, a Lambda, or nothing to declare. Assumes nothing.
 use borrow.Author.Needs.{needs}
 use native.Mathlib.Omega.{arith}
-use mathlib.Core.Path.{_≡_, sym, _∙_}
+use mathlib.Core.Path.{sym, _∙_}
 use Rattle.collect.proofs.Declared.{d-other, d-lambda-pre, d-lambda, d-def-long, d-def-pre, d-def}
 use Rattle.collect.proofs.declare.declare_node.Statement.{statement}
 use Rattle.collect.proofs.declare.declare_node.Tie as tie

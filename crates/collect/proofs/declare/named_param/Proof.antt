@@ -1,7 +1,7 @@
 -- `collect::declare::named_param` meets its contract: another kind, a Param without a Name, or one with. Assumes nothing.
 use borrow.Author.Needs.{needs}
 use native.Mathlib.Omega.{arith}
-use mathlib.Core.Path.{_≡_, sym, _∙_}
+use mathlib.Core.Path.{_∙_}
 use Rattle.collect.proofs.Counting.{param-other, param-bare, param-named}
 use Rattle.collect.proofs.declare.named_param.Statement.{statement}
 use Rattle.collect.proofs.declare.named_param.Tie as tie

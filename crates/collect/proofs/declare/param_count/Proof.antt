@@ -1,15 +1,13 @@
 -- `collect::declare::param_count` meets its contract: the nodes before byte i have n parameter variables. Assumes nothing.
 use borrow.Author.Needs.{needs}
 use native.Mathlib.Omega.{arith}
-use mathlib.Core.Path.{_≡_, sym, _∙_, subst}
+use mathlib.Core.Path.{sym, _∙_, subst}
 use mathlib.Core.List.{List}
 use Prim.Native.Nat.{ℕ, _-_}
 use lib.ListN.{length}
 use Rattle.base.specs.Parts.{part-from}
-use Rattle.lexical.specs.Tree.{Forest}
 use Rattle.nodefile.specs.Reads.{Reads}
 use Rattle.collect.specs.Parts.{size-from}
-use Rattle.collect.specs.Declare.{Params}
 use Rattle.collect.proofs.Counting.{Counted, c-start, c-node, c-more, c-end}
 use Rattle.collect.proofs.declare.param_count.Statement.{statement}
 use Rattle.collect.proofs.declare.param_count.Tie as tie

@@ -1,17 +1,18 @@
--- The functions of walk one that call one another meet their contracts: each cites a step (`Steps`) at what its callee ensures. Assumes nothing.
+-- The functions of walk one that call one another meet their contracts: each cites a step (`Kids`, `Steps`) at what its callee ensures. Assumes nothing.
 use borrow.Author.Needs.{needs}
 use native.Mathlib.Omega.{arith}
-use mathlib.Core.Path.{_≡_, refl, sym, ap, _∙_}
-use Prim.Native.Nat.{_+_, _-_, _*_}
-use lib.ListN.{length, drop, take}
+use mathlib.Core.Path.{sym, ap, _∙_}
+use Prim.Native.Nat.{_+_, _-_}
+use lib.ListN.{length}
 use Rattle.lexical.specs.Binders as bind
 use Rattle.lexical.specs.Binders.{collect}
 use Rattle.store.specs.Sections.{mem}
 use Rattle.target.specs.Target.{marksOf}
 use Rattle.collect.specs.Parts.{size-from}
-use Rattle.collect.proofs.Picks.{through-is, shut-is}
+use Rattle.collect.proofs.Picks.{statement-through, target-through, clause-through, expression-shut, type-shut}
 use Rattle.collect.proofs.Collecting.{through-node, loop-node, load-node, param-node}
-use Rattle.collect.proofs.Steps.{Mid, k-start, k-end, k-node, k-length, k-pre, k-more, x-long, x-shut, x-kids-length, x-kids-pre, x-kids, x-name-pre, x-name, x-def-pre, x-def}
+use Rattle.collect.proofs.Kids.{Mid, k-start, k-end, k-node, k-length, k-pre, k-more}
+use Rattle.collect.proofs.Steps.{x-long, x-shut, x-kids-length, x-kids-pre, x-kids, x-name-pre, x-name, x-def-pre, x-def}
 use Prim.Native.Nat.{ℕ, _<_}
 use borrow.Fn.Kinds.{In}
 use borrow.Fn.PlainCycle.{Measures, is, falls, and}
@@ -235,7 +236,7 @@ collect-defines-same-length-6 : (t : ℕ) → collect-defines-lts.Need-same-leng
 collect-defines-same-length-6 t c = search needs
 
 collect-defines-returns-2 : (t : ℕ) → collect-defines-lts.Need-returns-2 (collect-defines-calls t) (collect-defines-at t) collect-defines.Post
-collect-defines-returns-2 t c = x-kids ((c .before .before .before .before .before .before .before .before .before .before .before .before .before .before .before .before .before .before .before .pre) .1 .one) (λ N kids. loop-node N (marksOf ((c .before .before .before .before .before .before .before .before .before .before .before .before .before .before .before .before .before .before .before .args) .marks)) _ _ _ kids ((sym ((c .before .before .before .before .before .before .before .before .before .before .before .before .before .before .kind) .ensures .is)) ∙ (c .before .before .before .before .before .before .before .before .before .before .before .before .if2) .taken) ∙ ap (λ (m : bind.Marks). collect N m kids) (sym ((c .before .before .before .before .before .before .before .before .before .before .looping) .ensures))) ((c .before .before .before .before .before .before .collect-kids) .ensures)
+collect-defines-returns-2 t c = x-kids ((c .before .before .before .before .before .before .before .before .before .before .before .before .before .before .before .before .before .before .before .pre) .1 .one) {m′ = mem ((c .before .before .before .before .before .before .collect-kids) .last .1 .1 .1 .1 .1 .0) ((c .before .before .before .before .before .before .collect-kids) .last .1 .1 .1 .1 .1 .1 .0) ((c .before .before .before .before .before .before .collect-kids) .last .1 .1 .1 .1 .1 .1 .1 .0)} (λ N kids. loop-node N (marksOf ((c .before .before .before .before .before .before .before .before .before .before .before .before .before .before .before .before .before .before .before .args) .marks)) _ _ _ kids ((sym ((c .before .before .before .before .before .before .before .before .before .before .before .before .before .before .kind) .ensures .is)) ∙ (c .before .before .before .before .before .before .before .before .before .before .before .before .if2) .taken) ∙ ap (λ (m : bind.Marks). collect N m kids) (sym ((c .before .before .before .before .before .before .before .before .before .before .looping) .ensures))) ((c .before .before .before .before .before .before .collect-kids) .ensures)
 
 collect-defines-sub-collect-kids-2 : (t : ℕ) → collect-defines-lts.Need-sub-collect-kids-2 (collect-defines-calls t) (collect-defines-at t) collect-defines.Post
 collect-defines-sub-collect-kids-2 t c = omega (arith, x-long ((c .before .before .before .before .before .before .before .before .pre) .1 .one))
@@ -268,7 +269,7 @@ collect-defines-same-length-9 : (t : ℕ) → collect-defines-lts.Need-same-leng
 collect-defines-same-length-9 t c = search needs
 
 collect-defines-returns-3 : (t : ℕ) → collect-defines-lts.Need-returns-3 (collect-defines-calls t) (collect-defines-at t) collect-defines.Post
-collect-defines-returns-3 t c = x-kids ((c .before .before .before .before .before .before .before .before .before .before .before .before .before .before .before .before .before .before .before .before .pre) .1 .one) (λ N kids. load-node N (marksOf ((c .before .before .before .before .before .before .before .before .before .before .before .before .before .before .before .before .before .before .before .before .args) .marks)) _ _ _ kids ((sym ((c .before .before .before .before .before .before .before .before .before .before .before .before .before .before .before .kind) .ensures .is)) ∙ (c .before .before .before .before .before .before .before .before .before .before .before .before .if3) .taken) ∙ ap (λ (m : bind.Marks). collect N m kids) (sym ((c .before .before .before .before .before .before .before .before .before .before .loading) .ensures))) ((c .before .before .before .before .before .before .collect-kids2) .ensures)
+collect-defines-returns-3 t c = x-kids ((c .before .before .before .before .before .before .before .before .before .before .before .before .before .before .before .before .before .before .before .before .pre) .1 .one) {m′ = mem ((c .before .before .before .before .before .before .collect-kids2) .last .1 .1 .1 .1 .1 .0) ((c .before .before .before .before .before .before .collect-kids2) .last .1 .1 .1 .1 .1 .1 .0) ((c .before .before .before .before .before .before .collect-kids2) .last .1 .1 .1 .1 .1 .1 .1 .0)} (λ N kids. load-node N (marksOf ((c .before .before .before .before .before .before .before .before .before .before .before .before .before .before .before .before .before .before .before .before .args) .marks)) _ _ _ kids ((sym ((c .before .before .before .before .before .before .before .before .before .before .before .before .before .before .before .kind) .ensures .is)) ∙ (c .before .before .before .before .before .before .before .before .before .before .before .before .if3) .taken) ∙ ap (λ (m : bind.Marks). collect N m kids) (sym ((c .before .before .before .before .before .before .before .before .before .before .loading) .ensures))) ((c .before .before .before .before .before .before .collect-kids2) .ensures)
 
 collect-defines-sub-collect-kids-3 : (t : ℕ) → collect-defines-lts.Need-sub-collect-kids-3 (collect-defines-calls t) (collect-defines-at t) collect-defines.Post
 collect-defines-sub-collect-kids-3 t c = omega (arith, x-long ((c .before .before .before .before .before .before .before .before .pre) .1 .one))
@@ -300,7 +301,7 @@ collect-defines-same-length-12 t c = search needs
 collect-defines-returns-4 : (t : ℕ) → collect-defines-lts.Need-returns-4 (collect-defines-calls t) (collect-defines-at t) collect-defines.Post
 collect-defines-returns-4 t c =
     let h = (c .before .before .before .before .before .before .before .before .before .before .before .before .before .before .before .before .before .before .before .pre) .1 .high in let e = (c .before .before .before .before .before .before .before .before .before .before .before .before .before .before .kind) .ensures .is in
-    x-kids ((c .before .before .before .before .before .before .before .before .before .before .before .before .before .before .before .before .before .before .before .pre) .1 .one) (λ N kids. through-node N (marksOf ((c .before .before .before .before .before .before .before .before .before .before .before .before .before .before .before .before .before .before .before .args) .marks)) _ _ _ kids (through-is _ (omega arith) (λ z. omega arith) (λ z. omega (arith, (c .before .before .before .before .before .before .before .before .before .before .before .before .before .if1) .left, (c .before .before .before .before .before .before .before .before .before .before .before .before .if2) .left, (c .before .before .before .before .before .before .before .before .before .before .before .if3) .left)))) ((c .before .before .before .before .before .before .collect-kids3) .ensures)
+    x-kids ((c .before .before .before .before .before .before .before .before .before .before .before .before .before .before .before .before .before .before .before .pre) .1 .one) {m′ = mem ((c .before .before .before .before .before .before .collect-kids3) .last .1 .1 .1 .1 .1 .0) ((c .before .before .before .before .before .before .collect-kids3) .last .1 .1 .1 .1 .1 .1 .0) ((c .before .before .before .before .before .before .collect-kids3) .last .1 .1 .1 .1 .1 .1 .1 .0)} (λ N kids. through-node N (marksOf ((c .before .before .before .before .before .before .before .before .before .before .before .before .before .before .before .before .before .before .before .args) .marks)) _ _ _ kids (statement-through _ (omega (arith, (c .before .before .before .before .before .before .before .before .before .before .before .before .before .if1) .left, (c .before .before .before .before .before .before .before .before .before .before .before .before .if2) .left, (c .before .before .before .before .before .before .before .before .before .before .before .if3) .left)))) ((c .before .before .before .before .before .before .collect-kids3) .ensures)
 
 collect-defines-clause-sub-collect-kids :
     (t : ℕ) → collect-defines-clause-lts.Need-sub-collect-kids (collect-defines-clause-calls t) (collect-defines-clause-at t) collect-defines-clause.Post
@@ -334,7 +335,7 @@ collect-defines-clause-same-length-3 t c = search needs
 collect-defines-clause-returns : (t : ℕ) → collect-defines-clause-lts.Need-returns (collect-defines-clause-calls t) (collect-defines-clause-at t) collect-defines-clause.Post
 collect-defines-clause-returns t c =
     let h = (c .before .before .before .before .before .before .before .before .before .before .before .before .before .before .before .pre) .1 .high in let l = (c .before .before .before .before .before .before .before .before .before .before .before .before .before .before .before .pre) .1 .low in
-    x-kids ((c .before .before .before .before .before .before .before .before .before .before .before .before .before .before .before .pre) .1 .one) (λ N kids. through-node N (marksOf ((c .before .before .before .before .before .before .before .before .before .before .before .before .before .before .before .args) .marks)) _ _ _ kids (through-is _ (omega arith) (λ z. omega arith) (λ z. omega arith))) ((c .before .before .before .before .before .before .collect-kids) .ensures)
+    x-kids ((c .before .before .before .before .before .before .before .before .before .before .before .before .before .before .before .pre) .1 .one) {m′ = mem ((c .before .before .before .before .before .before .collect-kids) .last .1 .1 .1 .1 .1 .0) ((c .before .before .before .before .before .before .collect-kids) .last .1 .1 .1 .1 .1 .1 .0) ((c .before .before .before .before .before .before .collect-kids) .last .1 .1 .1 .1 .1 .1 .1 .0)} (λ N kids. through-node N (marksOf ((c .before .before .before .before .before .before .before .before .before .before .before .before .before .before .before .args) .marks)) _ _ _ kids (clause-through _ (omega arith) (omega arith))) ((c .before .before .before .before .before .before .collect-kids) .ensures)
 
 collect-defines-lvalue-kind-requires : (t : ℕ) → collect-defines-lvalue-lts.Need-kind-requires (collect-defines-lvalue-calls t) (collect-defines-lvalue-at t) collect-defines-lvalue.Post
 collect-defines-lvalue-kind-requires t c κs = search needs
@@ -390,7 +391,7 @@ collect-defines-lvalue-same-length-6 t c = search needs
 collect-defines-lvalue-returns-2 : (t : ℕ) → collect-defines-lvalue-lts.Need-returns-2 (collect-defines-lvalue-calls t) (collect-defines-lvalue-at t) collect-defines-lvalue.Post
 collect-defines-lvalue-returns-2 t c =
     let h = (c .before .before .before .before .before .before .before .before .before .before .before .before .before .before .before .before .before .pre) .1 .high in let l = (c .before .before .before .before .before .before .before .before .before .before .before .before .before .before .before .before .before .pre) .1 .low in let e = (c .before .before .before .before .before .before .before .before .before .before .before .before .kind) .ensures .is in
-    x-kids ((c .before .before .before .before .before .before .before .before .before .before .before .before .before .before .before .before .before .pre) .1 .one) (λ N kids. through-node N (marksOf ((c .before .before .before .before .before .before .before .before .before .before .before .before .before .before .before .before .before .args) .marks)) _ _ _ kids (through-is _ (omega arith) (λ z. omega arith) (λ z. omega (arith, (c .before .before .before .before .before .before .before .before .before .before .before .if1) .left)))) ((c .before .before .before .before .before .before .collect-kids) .ensures)
+    x-kids ((c .before .before .before .before .before .before .before .before .before .before .before .before .before .before .before .before .before .pre) .1 .one) {m′ = mem ((c .before .before .before .before .before .before .collect-kids) .last .1 .1 .1 .1 .1 .0) ((c .before .before .before .before .before .before .collect-kids) .last .1 .1 .1 .1 .1 .1 .0) ((c .before .before .before .before .before .before .collect-kids) .last .1 .1 .1 .1 .1 .1 .1 .0)} (λ N kids. through-node N (marksOf ((c .before .before .before .before .before .before .before .before .before .before .before .before .before .before .before .before .before .args) .marks)) _ _ _ kids (target-through _ (omega (arith, (c .before .before .before .before .before .before .before .before .before .before .before .if1) .left)) (omega arith))) ((c .before .before .before .before .before .before .collect-kids) .ensures)
 
 collect-defines-param-sub-collect-kids : (t : ℕ) → collect-defines-param-lts.Need-sub-collect-kids (collect-defines-param-calls t) (collect-defines-param-at t) collect-defines-param.Post
 collect-defines-param-sub-collect-kids t c = omega (arith, x-long ((c .before .before .before .before .pre) .1 .one))
@@ -426,7 +427,7 @@ collect-defines-param-same-length-3 t c = search needs
 collect-defines-param-returns : (t : ℕ) → collect-defines-param-lts.Need-returns (collect-defines-param-calls t) (collect-defines-param-at t) collect-defines-param.Post
 collect-defines-param-returns t c =
     let h = (c .before .before .before .before .before .before .before .before .before .before .before .before .before .before .before .before .pre) .1 .high in let l = (c .before .before .before .before .before .before .before .before .before .before .before .before .before .before .before .before .pre) .1 .low in
-    x-kids ((c .before .before .before .before .before .before .before .before .before .before .before .before .before .before .before .before .pre) .1 .one) (λ N kids. param-node N (marksOf ((c .before .before .before .before .before .before .before .before .before .before .before .before .before .before .before .before .args) .marks)) _ _ _ kids (omega arith) ∙ ap (λ (m : bind.Marks). collect N m kids) (sym ((c .before .before .before .before .before .before .before .before .before .before .as-param) .ensures))) ((c .before .before .before .before .before .before .collect-kids) .ensures)
+    x-kids ((c .before .before .before .before .before .before .before .before .before .before .before .before .before .before .before .before .pre) .1 .one) {m′ = mem ((c .before .before .before .before .before .before .collect-kids) .last .1 .1 .1 .1 .1 .0) ((c .before .before .before .before .before .before .collect-kids) .last .1 .1 .1 .1 .1 .1 .0) ((c .before .before .before .before .before .before .collect-kids) .last .1 .1 .1 .1 .1 .1 .1 .0)} (λ N kids. param-node N (marksOf ((c .before .before .before .before .before .before .before .before .before .before .before .before .before .before .before .before .args) .marks)) _ _ _ kids (omega arith) ∙ ap (λ (m : bind.Marks). collect N m kids) (sym ((c .before .before .before .before .before .before .before .before .before .before .as-param) .ensures))) ((c .before .before .before .before .before .before .collect-kids) .ensures)
 
 abbrev collect-kids-Inv-loop : collect-kids-lts.InvT-loop
 collect-kids-Inv-loop part at block marks binds₀ w₀ t₀ s₀ n₀ i₀ binds w t s n i = Mid part at block marks s₀ (mem binds₀ w₀ t₀) s n i (mem binds w t)
@@ -480,7 +481,7 @@ collect-kids-loop-less t c = let f = k-node ((c .before .before .before .before 
 collect-kids-loop-again : (t : ℕ) → collect-kids-lts.Need-loop-again (collect-kids-calls t) (collect-kids-at t) collect-kids.Post collect-kids-Inv-loop collect-kids-μ-loop
 collect-kids-loop-again t c =
     let k = (c .before .before .before .before .before .before .collect-node) in
-    k-more ((c .before .before .before .before .before .before .before .before .before .before .before .before .before .before .loop) .inv) ((c .before .before .before .before .before .before .before .before .before .before .before .before .before .loop-test) .taken) ((c .before .before .before .before .before .before .before .before .before .before .before .size) .result) (((c .before .before .before .before .before .before .before .before .before .before .before .size) .ensures .is ∙ size-from ((c .before .before .before .before .before .before .before .before .before .before .before .before .before .before .before .before .before .before .before .args) .part .now) ((c .before .before .before .before .before .before .before .before .before .before .before .before .before .before .loop) .i))) (k .kept .1 .1 .1 .1 .1 .0) (k .kept .1 .1 .1 .1 .1 .1 .0) (k .kept .1 .1 .1 .1 .1 .1 .1 .0) ((c .before .before .before .before .before .before .before .before .before .before .before .before .before .before .before .before .before .before .before .pre) .1 .ghost) (k .ensures)
+    k-more ((c .before .before .before .before .before .before .before .before .before .before .before .before .before .before .loop) .inv) ((c .before .before .before .before .before .before .before .before .before .before .before .before .before .loop-test) .taken) ((c .before .before .before .before .before .before .before .before .before .before .before .size) .result) (((c .before .before .before .before .before .before .before .before .before .before .before .size) .ensures .is ∙ size-from ((c .before .before .before .before .before .before .before .before .before .before .before .before .before .before .before .before .before .before .before .args) .part .now) ((c .before .before .before .before .before .before .before .before .before .before .before .before .before .before .loop) .i))) {m′ = mem (k .last .1 .1 .1 .1 .1 .0) (k .last .1 .1 .1 .1 .1 .1 .0) (k .last .1 .1 .1 .1 .1 .1 .1 .0)} (record { binds = k .kept .1 .1 .1 .1 .1 .0; w = k .kept .1 .1 .1 .1 .1 .1 .0; t = k .kept .1 .1 .1 .1 .1 .1 .1 .0 }) ((c .before .before .before .before .before .before .before .before .before .before .before .before .before .before .before .before .before .before .before .pre) .1 .ghost) (k .ensures)
 
 collect-kids-same-length : (t : ℕ) → collect-kids-lts.Need-same-length (collect-kids-calls t) (collect-kids-at t) collect-kids.Post collect-kids-Inv-loop collect-kids-μ-loop
 collect-kids-same-length t c = (c .before .loop) .inv .kept
@@ -529,7 +530,7 @@ collect-node-returns-2 : (t : ℕ) → collect-node-lts.Need-returns-2 (collect-
 collect-node-returns-2 t c = (c .before .before .before .before .before .before .collect-defines-lvalue) .ensures
 
 collect-node-returns-3 : (t : ℕ) → collect-node-lts.Need-returns-3 (collect-node-calls t) (collect-node-at t) collect-node.Post
-collect-node-returns-3 t c = let e = (c .before .before .before .kind) .ensures .is in x-shut ((c .before .before .before .before .before .before .before .before .pre) .1) ((c .before .before .before .before .before .before .before .before .args) .marks) (shut-is _ (omega (arith, (c .before .if2) .left)) (λ z. omega (arith, (c .if3) .taken)))
+collect-node-returns-3 t c = let e = (c .before .before .before .kind) .ensures .is in x-shut ((c .before .before .before .before .before .before .before .before .pre) .1) ((c .before .before .before .before .before .before .before .before .args) .marks) (λ g. expression-shut _ (omega (arith, (c .before .if2) .left)) (omega (arith, (c .if3) .taken)))
 
 collect-node-collect-defines-clause-requires :
     (t : ℕ) → collect-node-lts.Need-collect-defines-clause-requires (collect-node-calls t) (collect-node-at t) collect-node.Post
@@ -564,7 +565,7 @@ collect-node-returns-5 : (t : ℕ) → collect-node-lts.Need-returns-5 (collect-
 collect-node-returns-5 t c = (c .before .before .before .before .before .before .collect-defines-param) .ensures
 
 collect-node-returns-6 : (t : ℕ) → collect-node-lts.Need-returns-6 (collect-node-calls t) (collect-node-at t) collect-node.Post
-collect-node-returns-6 t c = let e = (c .before .before .before .before .before .kind) .ensures .is in x-shut ((c .before .before .before .before .before .before .before .before .before .before .pre) .1) ((c .before .before .before .before .before .before .before .before .before .before .args) .marks) (shut-is _ (omega (arith, (c .before .before .if3) .left)) (λ z. omega (arith, (c .before .if4) .left, (c .if5) .left)))
+collect-node-returns-6 t c = let e = (c .before .before .before .before .before .kind) .ensures .is in x-shut ((c .before .before .before .before .before .before .before .before .before .before .pre) .1) ((c .before .before .before .before .before .before .before .before .before .before .args) .marks) (λ h. type-shut _ (omega (arith, h, (c .before .if4) .left, (c .if5) .left)))
 
 pub +collect-defines+collect-defines-clause+collect-defines-lvalue+collect-defines-param+collect-kids+collect-node-spec :
     {M : Type 1} → statement M
