@@ -17,7 +17,7 @@ pub fn start(from: usize) -> Cursor
 }
 
 pub fn put(out: &mut [u8], c: Cursor, byte: u8) -> Cursor
-    ensures { λ r. ⌜ Puts (byte ∷ []) c (now (out .entry)) r (now (out .exit)) ⌝ }
+    ensures { λ r. ⌜ Puts ((byte ∷ []) ∷ []) c (now (out .entry)) r (now (out .exit)) ⌝ }
 {
     let skip = c.skip;
     let at = c.at;
@@ -38,7 +38,7 @@ pub fn put(out: &mut [u8], c: Cursor, byte: u8) -> Cursor
 }
 
 pub fn put_bytes(out: &mut [u8], c: Cursor, bytes: &[u8]) -> Cursor
-    ensures { λ r. ⌜ Puts (now (bytes .entry)) c (now (out .entry)) r (now (out .exit)) ⌝ }
+    ensures { λ r. ⌜ Puts (now (bytes .entry) ∷ []) c (now (out .entry)) r (now (out .exit)) ⌝ }
 {
     let mut k = c;
     let mut i = 0;
@@ -51,7 +51,7 @@ pub fn put_bytes(out: &mut [u8], c: Cursor, bytes: &[u8]) -> Cursor
 
 // A number in decimal, without leading zeros.
 pub fn put_decimal(out: &mut [u8], c: Cursor, n: u64) -> Cursor
-    ensures { λ r. ⌜ Puts (decimal n) c (now (out .entry)) r (now (out .exit)) ⌝ }
+    ensures { λ r. ⌜ Puts (decimal n ∷ []) c (now (out .entry)) r (now (out .exit)) ⌝ }
 {
     if n < 10 {
         return put(out, c, 48 + n as u8);
