@@ -1,5 +1,6 @@
 // The lists: a line for each record, in order.
 ghost use mathlib.Core.Path.{_≡_};
+ghost use mathlib.Core.List.{[], _∷_};
 ghost use Rattle.text.specs.Window.{Puts};
 ghost use Rattle.listing.specs.Lines.{identLine, scopeLine, scopeNames};
 ghost use Rattle.listing.specs.Text.{bindingLines, entryLines, scopeLines, copyLines, identLines, errorLines, isScope, scopeCount};
@@ -8,7 +9,7 @@ use crate::read;
 use text::Cursor;
 
 pub fn put_bindings(out: &mut [u8], c: Cursor, file: &[u8], list: &[u64]) -> Cursor
-    ensures { λ r. ⌜ Puts (bindingLines (now (file .entry)) (now (list .entry))) c (now (out .entry)) r (now (out .exit)) ⌝ }
+    ensures { λ r. ⌜ Puts (bindingLines (now (file .entry)) (now (list .entry)) ∷ []) c (now (out .entry)) r (now (out .exit)) ⌝ }
 {
     let mut k = c;
     let mut i = 0;
@@ -20,7 +21,7 @@ pub fn put_bindings(out: &mut [u8], c: Cursor, file: &[u8], list: &[u64]) -> Cur
 }
 
 pub fn put_entries(out: &mut [u8], c: Cursor, file: &[u8], list: &[u32]) -> Cursor
-    ensures { λ r. ⌜ Puts (entryLines (now (file .entry)) (now (list .entry))) c (now (out .entry)) r (now (out .exit)) ⌝ }
+    ensures { λ r. ⌜ Puts (entryLines (now (file .entry)) (now (list .entry)) ∷ []) c (now (out .entry)) r (now (out .exit)) ⌝ }
 {
     let mut k = c;
     let mut i = 0;
@@ -33,7 +34,7 @@ pub fn put_entries(out: &mut [u8], c: Cursor, file: &[u8], list: &[u32]) -> Curs
 
 // The names of a scope's slots, in order.
 fn put_names(out: &mut [u8], c: Cursor, file: &[u8], slots: &[u32], scope: u64) -> Cursor
-    ensures { λ r. ⌜ Puts (scopeNames (now (file .entry)) (now (slots .entry)) scope) c (now (out .entry)) r (now (out .exit)) ⌝ }
+    ensures { λ r. ⌜ Puts (scopeNames (now (file .entry)) (now (slots .entry)) scope ∷ []) c (now (out .entry)) r (now (out .exit)) ⌝ }
 {
     let mut k = c;
     let mut i = 0;
@@ -46,7 +47,7 @@ fn put_names(out: &mut [u8], c: Cursor, file: &[u8], slots: &[u32], scope: u64) 
 
 // The record of scope s, and its slots.
 fn put_scope(out: &mut [u8], c: Cursor, file: &[u8], slots: &[u32], s: u64, r: u64) -> Cursor
-    ensures { λ e. ⌜ Puts (scopeLine (now (file .entry)) (now (slots .entry)) s r) c (now (out .entry)) e (now (out .exit)) ⌝ }
+    ensures { λ e. ⌜ Puts (scopeLine (now (file .entry)) (now (slots .entry)) s r ∷ []) c (now (out .entry)) e (now (out .exit)) ⌝ }
 {
     let mut k = lines::put_number(out, c, b"S ", s);
     k = lines::put_number(out, k, b" ", r / 65536 % 65536);
@@ -82,7 +83,7 @@ fn scope_count(file: &[u8]) -> usize
 
 // Scope 0 and each Def's and Lambda's.
 pub fn put_scopes(out: &mut [u8], c: Cursor, file: &[u8], scopes: &[u32], slots: &[u32]) -> Cursor
-    ensures { λ r. ⌜ Puts (scopeLines (now (file .entry)) (now (scopes .entry)) (now (slots .entry))) c (now (out .entry)) r (now (out .exit)) ⌝ }
+    ensures { λ r. ⌜ Puts (scopeLines (now (file .entry)) (now (scopes .entry)) (now (slots .entry)) ∷ []) c (now (out .entry)) r (now (out .exit)) ⌝ }
 {
     let n = scope_count(file) + 1;
     let mut k = c;
@@ -95,7 +96,7 @@ pub fn put_scopes(out: &mut [u8], c: Cursor, file: &[u8], scopes: &[u32], slots:
 }
 
 pub fn put_copies(out: &mut [u8], c: Cursor, list: &[u32]) -> Cursor
-    ensures { λ r. ⌜ Puts (copyLines (now (list .entry))) c (now (out .entry)) r (now (out .exit)) ⌝ }
+    ensures { λ r. ⌜ Puts (copyLines (now (list .entry)) ∷ []) c (now (out .entry)) r (now (out .exit)) ⌝ }
 {
     let mut k = c;
     let mut i = 0;
@@ -108,7 +109,7 @@ pub fn put_copies(out: &mut [u8], c: Cursor, list: &[u32]) -> Cursor
 
 // A node's line: none unless it is an Ident with an outcome.
 fn put_ident(out: &mut [u8], c: Cursor, kind: u64, i: usize, r: u64) -> Cursor
-    ensures { λ e. ⌜ Puts (identLine kind i r) c (now (out .entry)) e (now (out .exit)) ⌝ }
+    ensures { λ e. ⌜ Puts (identLine kind i r ∷ []) c (now (out .entry)) e (now (out .exit)) ⌝ }
 {
     if kind != 11 {
         return c;
@@ -121,7 +122,7 @@ fn put_ident(out: &mut [u8], c: Cursor, kind: u64, i: usize, r: u64) -> Cursor
 }
 
 pub fn put_idents(out: &mut [u8], c: Cursor, file: &[u8], nodes: &[u32]) -> Cursor
-    ensures { λ r. ⌜ Puts (identLines (now (file .entry)) (now (nodes .entry))) c (now (out .entry)) r (now (out .exit)) ⌝ }
+    ensures { λ r. ⌜ Puts (identLines (now (file .entry)) (now (nodes .entry)) ∷ []) c (now (out .entry)) r (now (out .exit)) ⌝ }
 {
     let n = nodefile::node_count(file) as usize;
     let mut k = c;
@@ -134,7 +135,7 @@ pub fn put_idents(out: &mut [u8], c: Cursor, file: &[u8], nodes: &[u32]) -> Curs
 }
 
 pub fn put_errors(out: &mut [u8], c: Cursor, file: &[u8], list: &[u32]) -> Cursor
-    ensures { λ r. ⌜ Puts (errorLines (now (file .entry)) (now (list .entry))) c (now (out .entry)) r (now (out .exit)) ⌝ }
+    ensures { λ r. ⌜ Puts (errorLines (now (file .entry)) (now (list .entry)) ∷ []) c (now (out .entry)) r (now (out .exit)) ⌝ }
 {
     let mut k = c;
     let mut i = 0;

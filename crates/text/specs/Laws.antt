@@ -1,6 +1,6 @@
 -- What callers use of the window.
 --     puts-none, puts-then              no piece; some pieces and then more
---     puts-text, puts-line              pieces as one text
+--     puts-text, puts-line, puts-is     pieces as one text; the same text in other words
 --     rows-none, rows-more, rows-end    a text for each number below n, one after the other: before the first, one more, the last
 --     rows-bytes                        a list of bytes, byte by byte
 --     window-of                         from the first byte to the last
@@ -25,6 +25,9 @@ module _ {c c₁ : Cursor} {out out₁ : List ℕ} where
 
   pub puts-line : {ps : List (List ℕ)} → Puts ps c out c₁ out₁ → Puts (joined ps ∷ []) c out c₁ out₁
   puts-line p = puts-text p refl
+
+  pub puts-is : {t u : List ℕ} → Puts (t ∷ []) c out c₁ out₁ → t ≡ u → Puts (u ∷ []) c out c₁ out₁
+  puts-is p e = rw (← e) p
 
   pub rows-end : {f : ℕ → List ℕ} {i n : ℕ} → Rows f i c out c₁ out₁ → i ≡ n → Puts (each f n ∷ []) c out c₁ out₁
   rows-end r e = rw (← e) (r .puts)
