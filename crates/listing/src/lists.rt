@@ -1,6 +1,7 @@
 // The lists: a line for each record, in order.
 ghost use mathlib.Core.Path.{_≡_};
 ghost use mathlib.Core.List.{[], _∷_};
+ghost use Rattle.nodefile.specs.Node.{Is};
 ghost use Rattle.text.specs.Window.{Puts};
 ghost use Rattle.listing.specs.Lines.{identLine, scopeLine, scopeNames};
 ghost use Rattle.listing.specs.Text.{bindingLines, entryLines, scopeLines, copyLines, identLines, errorLines, isScope, scopeCount};
@@ -67,7 +68,7 @@ fn is_scope(kind: u64) -> bool
 
 // The number of Defs and Lambdas.
 fn scope_count(file: &[u8]) -> usize
-    ensures { λ r. ⌜ r ≡ scopeCount (now (file .entry)) ⌝ }
+    ensures { λ r. ⌜ Is (scopeCount (now (file .entry))) 65536 r ⌝ }
 {
     let n = nodefile::node_count(file) as usize;
     let mut s = 0;

@@ -1,8 +1,8 @@
 -- `listing::lines::put_counts` meets its contract: piece by piece.
 -- Assumes nothing.
 use borrow.Author.Needs.{needs}
-use Rattle.text.specs.Laws.{puts-then, puts-line}
 use Rattle.listing.specs.Lines.{countsLine}
+use Rattle.text.specs.Laws.{puts-then, puts-line}
 use Rattle.listing.proofs.lines.put_counts.Statement.{statement}
 use Rattle.listing.proofs.lines.put_counts.Tie as tie
 

@@ -3,8 +3,8 @@
 use mathlib.Core.Path.{ap}
 use native.Mathlib.Nat.{div-one}
 use borrow.Author.Needs.{needs}
-use Rattle.listing.specs.Lines.{errorLine, nameText}
 use Rattle.text.specs.Laws.{puts-then, puts-line, puts-is}
+use Rattle.listing.specs.Lines.{errorLine, nameText}
 use Rattle.listing.proofs.lines.put_error.Statement.{statement}
 use Rattle.listing.proofs.lines.put_error.Tie as tie
 

@@ -4,9 +4,9 @@ use Prim.Native.Nat.{ℕ}
 use mathlib.Core.Path.{ap₂, _∙_}
 use mathlib.Core.List.{List}
 use borrow.Author.Needs.{needs}
-use Rattle.nodefile.specs.Lists.{spelled}
-use Rattle.listing.specs.Lines.{nameText}
 use Rattle.text.specs.Laws.{puts-is}
+use Rattle.listing.specs.Lines.{nameText}
+use Rattle.nodefile.specs.Lists.{spelled}
 use Rattle.listing.proofs.lines.put_name.Statement.{statement}
 use Rattle.listing.proofs.lines.put_name.Tie as tie
 

@@ -1,8 +1,8 @@
 -- `listing::lines::put_resolution` meets its contract: by the class.
 -- Assumes nothing.
 use native.Mathlib.Nat.{div-one}
-use borrow.Author.Tests.{eq-eqb, ne-eqb}
 use borrow.Author.Needs.{needs}
+use borrow.Author.Tests.{eq-eqb, ne-eqb}
 use Rattle.text.specs.Laws.{puts-then, puts-line}
 use Rattle.listing.specs.Lines.{resolutionText}
 use Rattle.listing.proofs.lines.put_resolution.Statement.{statement}

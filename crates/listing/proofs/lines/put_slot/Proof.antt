@@ -1,8 +1,8 @@
 -- `listing::lines::put_slot` meets its contract: if it is the scope's.
 -- Assumes nothing.
 use native.Mathlib.Nat.{div-one}
-use borrow.Author.Tests.{eq-eqb, ne-eqb}
 use borrow.Author.Needs.{needs}
+use borrow.Author.Tests.{eq-eqb, ne-eqb}
 use Rattle.listing.specs.Lines.{slotName}
 use Rattle.text.specs.Laws.{puts-none, puts-then, puts-line}
 use Rattle.listing.proofs.lines.put_slot.Statement.{statement}

@@ -3,8 +3,8 @@
 use Prim.Native.Nat.{ℕ, _-_, _≤_}
 use native.Mathlib.Omega.{arith}
 use lib.ListN.{length, getD}
-use Rattle.text.specs.Window.{Rows}
 use Rattle.listing.specs.Lines.{bindingLine}
+use Rattle.text.specs.Window.{Rows}
 use Rattle.text.specs.Laws.{rows-none, rows-more, rows-end}
 use Rattle.listing.proofs.lists.put_bindings.Statement.{statement}
 use Rattle.listing.proofs.lists.put_bindings.Tie as tie
@@ -40,7 +40,7 @@ same-length : tie.Need-same-length Inv-loop μ-loop
 same-length c = c .before .loop .inv .1 .puts .long
 
 returns : tie.Need-returns Inv-loop μ-loop
-returns c = rows-end (c .before .loop .inv .1) (omega arith)
+returns c = rows-end (c .before .loop .inv .1) (c .before .loop .inv .0) (c .loop-test .left)
 
 pub put-bindings-spec : {M : Type 1} → statement M
 put-bindings-spec =

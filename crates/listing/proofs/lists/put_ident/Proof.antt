@@ -1,7 +1,7 @@
 -- `listing::lists::put_ident` meets its contract: by the kind and the class.
 -- Assumes nothing.
-use borrow.Author.Tests.{eq-eqb, ne-eqb}
 use borrow.Author.Needs.{needs}
+use borrow.Author.Tests.{eq-eqb, ne-eqb}
 use Rattle.listing.specs.Lines.{identLine}
 use Rattle.text.specs.Laws.{puts-none, puts-then, puts-line}
 use Rattle.listing.proofs.lists.put_ident.Statement.{statement}

@@ -19,7 +19,7 @@ returns : tie.Need-returns
 returns c = search needs
 
 returns-2 : tie.Need-returns-2
-returns-2 c = sym (List·getD-eq-default _ 0 (c .if1 .left))
+returns-2 c = sym (List·getD-eq-default (c .before .before .args .list .now) 0 (c .if1 .left))
 
 pub at-spec : {M : Type 1} → statement M
 at-spec = tie.close (tie.spec mul-wide shared-slice-read-wide wide-requires returns returns-2)

@@ -3,8 +3,8 @@
 use mathlib.Core.Path.{sym}
 use native.Mathlib.Omega.{arith}
 use borrow.Author.Needs.{needs}
-use lib.Seq.{take-all}
 use lib.ListN.{length-take}
+use lib.Seq.{take-all}
 use Rattle.listing.proofs.read.front32.Statement.{statement}
 use Rattle.listing.proofs.read.front32.Tie as tie
 
