@@ -4,10 +4,10 @@ use Prim.Native.Nat.{ℕ, suc, _-_, _≤_}
 use mathlib.Core.Path.{ap}
 use native.Mathlib.Omega.{arith}
 use lib.ListN.{getD}
-use Rattle.listing.specs.Text.{scopeCount}
+use Rattle.lines.specs.Lines.{scopeLine}
 use Rattle.text.specs.Window.{Rows}
 use Rattle.text.specs.Laws.{rows-none, rows-more, rows-end, puts-is}
-use Rattle.listing.specs.Lines.{scopeLine}
+use Rattle.listing.specs.Text.{scopeCount}
 use Rattle.listing.proofs.lists.put_scopes.Statement.{statement}
 use Rattle.listing.proofs.lists.put_scopes.Tie as tie
 
