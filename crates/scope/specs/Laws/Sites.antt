@@ -1,17 +1,15 @@
 -- Idents by their nodes: each Ident of the node list is looked up, under the name that its node holds, with the nodes around it.
 --     ident-event   the lookup of an Ident
-use Prim.Native.Nat.{ℕ, zero, suc, _+_, _*_, _<_, _≤_}
+use Prim.Native.Nat.{ℕ, zero, suc, _+_, _*_, _<_}
 use mathlib.Core.Path.{_≡_, refl, sym, ap, _∙_, subst}
 use mathlib.Core.Logic.{_⊎_, inl, inr, ⊎-elim}
 use mathlib.Core.Bool.{Bool, true, false}
-use mathlib.Core.List.{List, [], _∷_, _++_, map}
-use mathlib.Core.Option.{none, some}
+use mathlib.Core.List.{List, [], _∷_, _++_}
+use mathlib.Core.Option.{some}
 use native.Mathlib.Omega.{arith}
-use lib.Dec.{eqb}
 use lib.ListN.{length, getElem?}
-use Rattle.lexical.specs.Lists.{none-some, either, eqb-self, eqb-true, Tested, was, wasnt, tested}
-use Rattle.lexical.specs.Places.{In, at-append, map-from}
-use Rattle.lexical.specs.Sums.{total, one, times}
+use Rattle.lexical.specs.Lists.{none-some, either}
+use Rattle.lexical.specs.Places.{In, at-append}
 use Rattle.lexical.specs.Tree.{Forest, nil, node, Way, plain, isLook, way, empty, when, turn, Turn, inOrder, inside, opening, behind, identsIn}
 use Rattle.lexical.specs.Binders.{Names, Target, targets}
 use Rattle.lexical.specs.Module.{File, outerOf}
@@ -19,14 +17,14 @@ use Rattle.lexical.specs.Meaning.{Around, around, Site}
 use Rattle.lexical.specs.Order.{Step, ident, opens, siteHere, arranged, steps, idents, idents-append}
 use Rattle.lexical.specs.State.{Event}
 use Rattle.lexical.specs.Third.{resolved}
-use Rattle.lexical.specs.Claims.{Scoped, sitesOf, view, told, ancestors}
+use Rattle.lexical.specs.Claims.{Scoped, view, told, ancestors}
 use Rattle.lexical.specs.Theorems.{T1-all, T1-at}
 use Rattle.lexical.specs.Proof.Outcome.{site-of, node-of, name-of}
-use Rattle.nodefile.specs.Node.{valueOf}
 use Rattle.nodefile.specs.Reads.{Reads}
 use Rattle.nodefile.specs.Order.{Spot, spotsIn, spot-at}
 use Rattle.nodefile.specs.Listed.{kindAt, valueAt, in-listed, nodes-distinct}
 use Rattle.target.specs.Alike.{at-behind}
+use Rattle.scope.specs.Laws.Lists.{times-in, found-at}
 
 -- ---- somewhere in a list
 
@@ -96,21 +94,6 @@ noded N (node at k v kids rest) w s ts b up x e =
 
 -- ---- and each Ident is looked up
 
-found-node : (x : ℕ) (es : List Event) → 1 ≤ times x (map (λ (e : Event). e .node) es) → (j : ℕ) × (e : Event) × (getElem? es j ≡ some e) × (e .node ≡ x)
-unfolding total one
-found-node x [] h = absurd (omega arith)
-found-node x (e ∷ es) h = go (tested (eqb x (e .node))) (λ l. found-node x es l)
-  where
-    go : Tested (eqb x (e .node)) → (1 ≤ times x (map (λ (e : Event). e .node) es) → (j : ℕ) × (y : Event) × (getElem? es j ≡ some y) × (y .node ≡ x)) → (j : ℕ) × (y : Event) × (getElem? (e ∷ es) j ≡ some y) × (y .node ≡ x)
-    go (was q) r = (0, e, refl, sym (eqb-true x (e .node) q))
-    go (wasnt q) r = let z : one x (e .node) ≡ 0 = rw q refl in let (j, y, at, n) = r (omega arith) in (suc j, y, at, n)
-
-times-in : (x : ℕ) (xs : List ℕ) → In x xs → 1 ≤ times x xs
-unfolding total one
-times-in x (y ∷ xs) (inl e) = let z : eqb x y ≡ true = rw e (eqb-self y) in rw z (omega arith)
-times-in x (y ∷ xs) (inr m) = omega (arith, times-in x xs m)
-times-in x [] m = absurd m
-
 -- the lookup of the Ident at node x, whose name is n
 pub record Lookup (F : File) (x n : ℕ) : Type 0 where
   pub place : ℕ
@@ -138,6 +121,6 @@ module _ (F : File) (ok : Scoped F) (t : List ℕ) (r : Reads t 0 (F .root)) whe
   ident-event x h k =
       let z : 0 + x ≡ x = omega arith in
       let m : In x (identsIn (F .root)) = subst (λ (i : ℕ). In i (identsIn (F .root))) z (in-listed (F .root) t 0 r (λ k. isLook (way k)) (λ a k v. a) x h (rw k refl)) in
-      let (j, e, at, n) = found-node x (resolved F .log) (omega (arith, T1-all F ok x, times-in x (identsIn (F .root)) m)) in
+      let (j, e, at, n) = found-at (λ (e : Event). e .node) x (resolved F .log) (omega (arith, T1-all F ok x, times-in x (identsIn (F .root)) m)) in
       let (up, a, v) = T1-at F ok (nodes-distinct (F .root) t 0 r) j e at in
       looked j e x at n up a v

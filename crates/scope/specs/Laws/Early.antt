@@ -1,7 +1,7 @@
 -- A module binding that a lookup finds is one of walk one's.
 use Prim.Native.Nat.{ℕ, _<_, _≤_}
 use mathlib.Core.Path.{_≡_, sym, ap, _∙_, subst}
-use mathlib.Core.Bool.{true, false}
+use mathlib.Core.Bool.{true, true≢false}
 use mathlib.Core.List.{List, _++_}
 use mathlib.Core.Option.{some}
 use native.Mathlib.Omega.{arith}
@@ -30,8 +30,7 @@ module _ (F : File) (ok : Scoped F) where
       later h =
           let e : getElem? (start F .made ++ more) i ≡ some (m .binding) = subst (λ (l : List Binding). getElem? l i ≡ some (m .binding)) (made-start F .1) (m .stands) in
           let l : m .binding .local ≡ true = made-start F .2 _ (m .binding) (sym (at-right (start F .made) more i h) ∙ e) in
-          let z : true ≡ false = sym l ∙ m .of-module in
-          let y : _≡_ {A = ℕ} 0 1 = cc in omega arith
+          true≢false (sym l ∙ m .of-module)
 
   pub found-early : (j : ℕ) (e : Event) (i : ℕ) → getElem? (resolved F .log) j ≡ some e → e .found ≡ outside (module′ i) → i < length (start F .made)
   unfolding view told seen Outcome

@@ -2,10 +2,10 @@
 --     copies-read   the copies' records
 --     follow-read   following them
 --     into-read     how many are into a scope
-use Prim.Native.Nat.{ℕ, suc, _/_, _%_, _<_, _≤_}
-use mathlib.Core.Path.{_≡_, refl, sym, ap, _∙_, subst}
+use Prim.Native.Nat.{ℕ, suc, _/_, _%_, _<_}
+use mathlib.Core.Path.{_≡_, refl, sym, ap, _∙_}
 use mathlib.Core.Bool.{cond}
-use mathlib.Core.List.{List, [], _∷_, _++_, map, map-map, reverse, reverse-reverse}
+use mathlib.Core.List.{List, [], _∷_, map, map-map, reverse, reverse-reverse}
 use mathlib.Core.Option.{Option, none, some}
 use native.Mathlib.Omega.{arith}
 use lib.Dec.{eqb}

@@ -1,24 +1,21 @@
 -- Slots belong to the module's scope or to a function of the tree.
-use Prim.Native.Nat.{ℕ, zero, suc}
+use Prim.Native.Nat.{ℕ, suc}
 use mathlib.Core.Path.{_≡_, refl, subst, sym}
-use mathlib.Core.Logic.{_⊎_, inl, inr}
-use mathlib.Core.Bool.{Bool, true, false, cond}
-use mathlib.Core.List.{List, [], _∷_, _++_}
+use mathlib.Core.Logic.{inl, inr}
+use mathlib.Core.Bool.{true, cond}
+use mathlib.Core.List.{List, [], _∷_}
 use mathlib.Core.Option.{Option, none, some}
-use lib.ListN.{getElem?}
-use Rattle.lexical.specs.Lists.{either, If, first}
+use Rattle.lexical.specs.Lists.{either, If, first, count, eqb-not}
 use Rattle.lexical.specs.Places.{All, all-none, all-snoc, In, in-left, in-right}
-use Rattle.lexical.specs.Tree.{Forest, nil, node, Way, plain, isFn, way, empty, when, listed, scopesIn, top}
+use Rattle.lexical.specs.Tree.{Forest, nil, node, Way, plain, isFn, way, when, listed, scopesIn, top}
 use Rattle.lexical.specs.Binders.{Names, Target, Var, targets, merge}
 use Rattle.lexical.specs.Module.{File, Outer, outerOf}
-use Rattle.lexical.specs.Meaning.{Around}
-use Rattle.lexical.specs.Order.{Step, steps}
 use Rattle.lexical.specs.State.{Binding, Slot, St, Row, Ctx}
-use Rattle.lexical.specs.Block.{slotFor, new, add, bind, naming, block, called}
+use Rattle.lexical.specs.Block.{inScope, freshIn, slotFor, add, bind, naming, block, called}
 use Rattle.lexical.specs.First.{start}
 use Rattle.lexical.specs.Second.{declareFn, declareHere, declare, rows, second}
 use Rattle.lexical.specs.Third.{hand, copyIn, bringTo, bring, logged, lookFound, inner, enter, typed, below, walk, outermost, resolved}
-use Rattle.lexical.specs.Proof.Induct.{Good, AllFn, innerScope, Laws, Post, walked}
+use Rattle.lexical.specs.Proof.Induct.{Good, AllFn, Laws, walked}
 
 -- the scopes that are meant, the module's among them
 module _ (S : ℕ → Type 0) where
@@ -100,3 +97,12 @@ slots-within F = walk-held S (inl refl) (F .names) (rows (second F .0)) (outerOf
   where
     S : ℕ → Type 0
     S t = In t (0 ∷ scopesIn (F .root))
+
+-- a scope with a slot is one of them
+no-slots : (s : ℕ) (rs : List Slot) → All (λ (r : Slot). r .scope ≡ s → ⊥) rs → freshIn s rs ≡ 0
+unfolding freshIn count inScope
+no-slots s [] h = refl
+no-slots s (r ∷ rs) h = rw (eqb-not (r .scope) s (h 0 r refl)) (no-slots s rs (λ j x e. h (suc j) x e))
+
+pub no-scope : (F : File) (s : ℕ) → (In s (0 ∷ scopesIn (F .root)) → ⊥) → freshIn s (resolved F .slots) ≡ 0
+no-scope F s h = no-slots s (resolved F .slots) (λ k r e t. h (subst (λ (x : ℕ). In x (0 ∷ scopesIn (F .root))) t (slots-within F k r e)))

@@ -1,23 +1,16 @@
 -- The rows of Idents and Names, and the errors, fit their fields.
---     node-small                                     an Ident's number
---     answer-bounds, name-bounds, error-bounds       row by row
---     row-in, row-from                               the rows of lookups, in a list and lookup by lookup
---     errors-known                                   an error's row
-use Prim.Native.Nat.{ℕ, zero, suc, _+_, _*_, _<_, _≤_}
+--     node-small                                          an Ident's number
+--     answer-bounds, name-bounds, error-one, error-fits   row by row
+use Prim.Native.Nat.{ℕ, _<_, _≤_}
 use mathlib.Core.Path.{_≡_, refl, sym, ap, _∙_, subst}
-use mathlib.Core.Logic.{inl, inr}
 use mathlib.Core.Bool.{Bool, true, false, cond}
-use mathlib.Core.List.{List, [], _∷_, _++_, map, map-append}
+use mathlib.Core.List.{List, [], _∷_}
 use mathlib.Core.Option.{Option, none, some}
 use native.Mathlib.Omega.{arith}
-use lib.Dec.{eqb}
 use lib.ListN.{length, getD, getElem?, length-append}
 use Rattle.base.specs.UpTo.{at-some}
-use Rattle.lexical.specs.Lists.{none-some, eqb-self, eqb-true, Tested, was, wasnt, tested}
-use Rattle.lexical.specs.Places.{In, Distinct, at-below, at-append}
-use Rattle.lexical.specs.Sums.{total, one, times, total-append}
+use Rattle.lexical.specs.Places.{In, at-below}
 use Rattle.lexical.specs.Tree.{Forest, isLook, way, identsIn, top}
-use Rattle.lexical.specs.Table.{Headed}
 use Rattle.lexical.specs.Module.{File, module′, global, missing, outerOf}
 use Rattle.lexical.specs.Meaning.{Meaning, meaning}
 use Rattle.lexical.specs.State.{Binding, Event, Named, Found, local, refused, outside}
@@ -27,64 +20,23 @@ use Rattle.lexical.specs.Records as rec
 use Rattle.lexical.specs.Claims.{OfLocal, seen}
 use Rattle.lexical.specs.Theorems.{T1-all, T1-global, named-known}
 use Rattle.lexical.specs.Code.Numbers.{made-start, fresh-all}
-use Rattle.lexical.specs.Code.Rows.{node-once}
 use Rattle.lexical.specs.Proof.Outcome.{site-of, meaning-of, means-outside}
 use Rattle.lexical.specs.Proof.Chains.{Led}
 use Rattle.lexical.specs.Proof.Last.{last}
 use Rattle.lexical.specs.Code.Below.{SlotFits, answer-below}
 use Rattle.nodefile.specs.Layout.{nodeCount, nodesOf}
-use Rattle.nodefile.specs.Reads.{Reads}
 use Rattle.nodefile.specs.FileOf.{fileOf}
 use Rattle.nodefile.specs.FileLaws.{globals-count}
 use Rattle.nodefile.specs.Listed.{listed-in}
-use Rattle.store.specs.Words.{rowNode}
-use Rattle.target.specs.Alike.{at-behind}
+use Rattle.scope.specs.Laws.Lists.{times-at, in-times}
 use Rattle.scope.specs.Ready.{Ready}
-use Rattle.scope.specs.Packed.{nodeAnswer}
-use Rattle.scope.specs.Laws.Readies.{ready-scoped, ready-headed, ready-distinct, ready-length, ready-made}
-use Rattle.scope.specs.Laws.Rows.{rowsOf, answer-none}
+use Rattle.scope.specs.Laws.Readies.{ready-scoped, ready-length, ready-made}
 use Rattle.scope.specs.Laws.Early.{found-early}
-use Rattle.scope.specs.Laws.Bounds.{MadeBounds, made-bounds}
+use Rattle.scope.specs.Laws.Bounds.{made-bounds}
 
 -- class 2, slot or global 15, binding 15
 abbrev pub RowFits : List ℕ → Type 0
 RowFits row = (getD row 1 0 < 4) × (getD row 2 0 < 32768) × (getD row 3 0 < 32768)
-
-in-times : (x : ℕ) (xs : List ℕ) → 1 ≤ times x xs → In x xs
-unfolding total one
-in-times x [] h = absurd (omega arith)
-in-times x (y ∷ xs) h = go (tested (eqb x y)) (λ l. in-times x xs l)
-  where
-    go : Tested (eqb x y) → (1 ≤ times x xs → In x xs) → In x (y ∷ xs)
-    go (was e) r = inl (eqb-true x y e)
-    go (wasnt e) r = let z : one x y ≡ 0 = rw e refl in inr (r (omega arith))
-
-times-node : (j : ℕ) (e : Event) (es : List Event) → getElem? es j ≡ some e → 1 ≤ times (e .node) (map (λ (x : Event). x .node) es)
-unfolding total one
-times-node j e [] q = absurd (none-some refl q)
-times-node zero e (x ∷ es) q = let z : x ≡ e = cc in rw (ap (λ (y : Event). y .node) z, eqb-self (e .node)) (omega arith)
-times-node (suc j) e (x ∷ es) q = omega (arith, times-node j e es q)
-
--- lists that lookups give, one after the other, each one row or none
-module _ (g : List Event → List (List ℕ)) (h : Event → List (List ℕ)) (none-left : g [] ≡ []) (more : (e : Event) (es : List Event) → g (e ∷ es) ≡ h e ++ g es) where
-  pub row-in : (es : List Event) (j : ℕ) (e : Event) (row : List ℕ) → getElem? es j ≡ some e → h e ≡ row ∷ [] → (k : ℕ) × (getElem? (g es) k ≡ some row)
-  row-in [] j e row p r = absurd (none-some refl p)
-  row-in (x ∷ es) zero e row p r = let z : x ≡ e = cc in (0, rw (more x es, z, r) refl)
-  row-in (x ∷ es) (suc j) e row p r = let (k, a) = row-in es j e row p r in (length (h x) + k, ap (λ (l : List (List ℕ)). getElem? l (length (h x) + k)) (more x es) ∙ at-behind (h x) (g es) k ∙ a)
-
-  pub row-from : ((e : Event) → length (h e) ≤ 1) → (es : List Event) (k : ℕ) (row : List ℕ) → getElem? (g es) k ≡ some row → (j : ℕ) × (e : Event) × (getElem? es j ≡ some e) × (h e ≡ row ∷ [])
-  row-from s [] k row a = absurd (none-some refl (rw none-left at a))
-  row-from s (x ∷ es) k row a = go (h x) refl (s x) (ap (λ (l : List (List ℕ)). getElem? l k) (sym (more x es)) ∙ a) (λ k p. row-from s es k row p)
-    where
-      go : (l : List (List ℕ)) → h x ≡ l → length l ≤ 1 → getElem? (h x ++ g es) k ≡ some row → ((k : ℕ) → getElem? (g es) k ≡ some row → (j : ℕ) × (e : Event) × (getElem? es j ≡ some e) × (h e ≡ row ∷ []))
-          → (j : ℕ) × (e : Event) × (getElem? (x ∷ es) j ≡ some e) × (h e ≡ row ∷ [])
-      go [] e n p r = let (j, y, q, w) = r k (rw e at p) in (suc j, y, q, w)
-      go (m ∷ []) e n p r = here k (rw e at p)
-        where
-          here : (k : ℕ) → getElem? (m ∷ g es) k ≡ some row → (j : ℕ) × (y : Event) × (getElem? (x ∷ es) j ≡ some y) × (h y ≡ row ∷ [])
-          here zero p = let z : m ≡ row = cc in (0, x, refl, e ∙ ap (λ (w : List ℕ). w ∷ []) z)
-          here (suc k) p = let (j, y, q, w) = r k p in (suc j, y, q, w)
-      go (m ∷ (n′ ∷ l)) e n p r = absurd (omega arith)
 
 module _ {bs : List ℕ} {root : Forest} (q : Ready bs root) (few : length (resolved (fileOf bs root) .slots) ≤ 4096) where
   abbrev F : File
@@ -93,7 +45,7 @@ module _ {bs : List ℕ} {root : Forest} (q : Ready bs root) (few : length (reso
   pub node-small : (j : ℕ) (e : Event) → getElem? (resolved F .log) j ≡ some e → e .node < nodeCount bs
   unfolding identsIn
   node-small j e p =
-      let m : In (e .node) (identsIn root) = in-times (e .node) (identsIn root) (omega (arith, T1-all F (ready-scoped q) (e .node), times-node j e (resolved F .log) p)) in
+      let m : In (e .node) (identsIn root) = in-times (e .node) (identsIn root) (omega (arith, T1-all F (ready-scoped q) (e .node), times-at (λ (x : Event). x .node) (e .node) (resolved F .log) j e p refl)) in
       let d = listed-in root (nodesOf bs) 0 (q .reads) (λ k. isLook (way k)) (λ a k v. a) (e .node) m in
       omega (arith, d .inside, d .is, ready-length q)
 
@@ -146,8 +98,8 @@ module _ {bs : List ℕ} {root : Forest} (q : Ready bs root) (few : length (reso
       go at none h = (omega arith, omega arith, omega arith)
       go at (some b) h = let m = made-bounds q few (b .id) b (h b refl) in (class (b .local), m .slot, omega (arith, m .number))
 
--- an error's row: its node, and 1 or 2
-error-one : (at : ℕ) (f : Found) → length (rec.errorRow at f) ≤ 1
+-- an error's row, if there is one: its node, and 1 or 2
+pub error-one : (at : ℕ) (f : Found) → length (rec.errorRow at f) ≤ 1
 unfolding rec.errorRow rec.outerError
 error-one at (local b k) = omega arith
 error-one at (refused b k) = omega arith
@@ -155,10 +107,10 @@ error-one at (outside (module′ i)) = omega arith
 error-one at (outside (global g)) = omega arith
 error-one at (outside missing) = omega arith
 
-error-fits : (at : ℕ) (f : Found) (row : List ℕ) → rec.errorRow at f ≡ row ∷ [] → (getD row 0 0 ≡ at) × (getD row 1 0 < 3)
+pub error-fits : (at : ℕ) (f : Found) (row : List ℕ) → rec.errorRow at f ≡ row ∷ [] → (code : ℕ) × (row ≡ at ∷ code ∷ []) × (code < 3)
 unfolding rec.errorRow rec.outerError
 error-fits at (local b k) row e = absurd (let z : _≡_ {A = ℕ} 0 1 = cc in omega arith)
-error-fits at (refused b k) row e = let z : at ∷ 2 ∷ [] ≡ row = cc in subst (λ (r : List ℕ). (getD r 0 0 ≡ at) × (getD r 1 0 < 3)) z (refl, omega arith)
+error-fits at (refused b k) row e = (2, cc, omega arith)
 error-fits at (outside (module′ i)) row e = absurd (let z : _≡_ {A = ℕ} 0 1 = cc in omega arith)
 error-fits at (outside (global g)) row e = absurd (let z : _≡_ {A = ℕ} 0 1 = cc in omega arith)
-error-fits at (outside missing) row e = let z : at ∷ 1 ∷ [] ≡ row = cc in subst (λ (r : List ℕ). (getD r 0 0 ≡ at) × (getD r 1 0 < 3)) z (refl, omega arith)
+error-fits at (outside missing) row e = (1, cc, omega arith)
