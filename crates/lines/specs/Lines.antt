@@ -2,7 +2,7 @@
 -- Records are read by their widths (`scope`'s Packed): `getD row 2 0` is field 2, counted from 0.
 use Prim.Native.Nat.{ℕ}
 use mathlib.Core.Bool.{cond}
-use mathlib.Core.List.{List, [], _∷_, _++_}
+use mathlib.Core.List.{List, [], _∷_}
 use lib.Dec.{eqb}
 use lib.ListN.{length, getD}
 use Rattle.bits.specs.Pack.{unpack}

@@ -71,7 +71,18 @@ put-bytes-requires-2 c κs = tt
 
 returns : tie.Need-returns
 unfolding bindingLine
-returns c = puts-line (puts-then (c .before .before .before .before .before .before .before .before .before .before .before .before .before .before .before .before .before .before .before .before .before .before .before .before .before .before .before .before .before .before .before .before .before .before .before .before .before .before .before .before .before .before .before .before .before .before .before .before .put-number .ensures) (puts-then (c .before .before .before .before .before .before .before .before .before .before .before .before .before .before .before .before .before .before .before .before .before .before .before .before .before .before .before .before .before .before .before .before .before .before .before .before .before .before .before .before .before .before .before .put-bytes .ensures) (puts-then (c .before .before .before .before .before .before .before .before .before .before .before .before .before .before .before .before .before .before .before .before .before .before .before .before .before .before .before .before .before .before .before .before .before .before .before .before .before .before .before .put-name .ensures) (puts-then (c .before .before .before .before .before .before .before .before .before .before .before .before .before .before .before .before .before .before .before .before .before .before .before .before .before .before .before .before .before .before .before .before .before .put-choice .ensures) (puts-then (c .before .before .before .before .before .before .before .before .before .before .before .before .before .before .before .before .before .before .before .before .before .before .before .before .before .before .before .before .before .put-decimal .ensures) (puts-then (c .before .before .before .before .before .before .before .before .before .before .before .before .before .before .before .before .before .before .before .before .before .before .before .put-choice2 .ensures) (puts-then (c .before .before .before .before .before .before .before .before .before .before .before .before .before .before .before .before .before .put-choice3 .ensures) (puts-then (c .before .before .before .before .before .before .before .before .before .before .before .put-choice4 .ensures) (puts-then (c .before .before .before .before .before .before .before .put-source .ensures) (c .before .before .put-bytes2 .ensures))))))))))
+returns c =
+    let p10 = c .before .before in
+    let p9 = p10 .before .before .before .before .before in
+    let p8 = p9 .before .before .before .before in
+    let p7 = p8 .before .before .before .before .before .before in
+    let p6 = p7 .before .before .before .before .before .before in
+    let p5 = p6 .before .before .before .before .before .before in
+    let p4 = p5 .before .before .before .before in
+    let p3 = p4 .before .before .before .before .before .before in
+    let p2 = p3 .before .before .before .before in
+    let p1 = p2 .before .before .before .before .before in
+    puts-line (puts-then (p1 .put-number .ensures) (puts-then (p2 .put-bytes .ensures) (puts-then (p3 .put-name .ensures) (puts-then (p4 .put-choice .ensures) (puts-then (p5 .put-decimal .ensures) (puts-then (p6 .put-choice2 .ensures) (puts-then (p7 .put-choice3 .ensures) (puts-then (p8 .put-choice4 .ensures) (puts-then (p9 .put-source .ensures) (p10 .put-bytes2 .ensures))))))))))
 
 same-length : tie.Need-same-length
 same-length c = returns c .long

@@ -44,7 +44,14 @@ put-bytes-requires c κs = tt
 
 returns : tie.Need-returns
 unfolding countsLine
-returns c = puts-line (puts-then (c .before .before .before .before .before .before .before .before .before .before .before .before .before .before .before .before .before .before .before .before .before .before .before .before .before .before .before .put-number .ensures) (puts-then (c .before .before .before .before .before .before .before .before .before .before .before .before .before .before .before .before .before .before .before .before .before .before .put-number2 .ensures) (puts-then (c .before .before .before .before .before .before .before .before .before .before .before .before .before .before .before .before .before .put-number3 .ensures) (puts-then (c .before .before .before .before .before .before .before .before .before .before .before .before .put-number4 .ensures) (puts-then (c .before .before .before .before .before .before .before .put-number5 .ensures) (c .before .before .put-bytes .ensures))))))
+returns c =
+    let p6 = c .before .before in
+    let p5 = p6 .before .before .before .before .before in
+    let p4 = p5 .before .before .before .before .before in
+    let p3 = p4 .before .before .before .before .before in
+    let p2 = p3 .before .before .before .before .before in
+    let p1 = p2 .before .before .before .before .before in
+    puts-line (puts-then (p1 .put-number .ensures) (puts-then (p2 .put-number2 .ensures) (puts-then (p3 .put-number3 .ensures) (puts-then (p4 .put-number4 .ensures) (puts-then (p5 .put-number5 .ensures) (p6 .put-bytes .ensures))))))
 
 same-length : tie.Need-same-length
 same-length c = returns c .long

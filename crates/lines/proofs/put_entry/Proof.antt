@@ -33,7 +33,12 @@ put-choice-requires c κs = tt
 
 returns : tie.Need-returns
 unfolding entryLine
-returns c = rw div-one (puts-line (puts-then (c .before .before .before .before .before .before .before .before .before .before .before .before .before .before .before .before .before .put-number .ensures) (puts-then (c .before .before .before .before .before .before .before .before .before .before .before .before .put-bytes .ensures) (puts-then (c .before .before .before .before .before .before .before .before .put-name .ensures) (c .before .before .put-choice .ensures)))))
+returns c =
+    let p4 = c .before .before in
+    let p3 = p4 .before .before .before .before .before .before in
+    let p2 = p3 .before .before .before .before in
+    let p1 = p2 .before .before .before .before .before in
+    rw div-one (puts-line (puts-then (p1 .put-number .ensures) (puts-then (p2 .put-bytes .ensures) (puts-then (p3 .put-name .ensures) (p4 .put-choice .ensures)))))
 
 same-length : tie.Need-same-length
 same-length c = returns c .long

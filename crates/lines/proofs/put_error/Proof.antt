@@ -39,7 +39,15 @@ put-bytes-requires-2 c κs = tt
 
 returns : tie.Need-returns
 unfolding errorLine
-returns c = rw div-one (puts-line (puts-then (c .before .before .before .before .before .before .before .before .before .before .before .before .before .before .before .before .before .before .before .before .before .before .put-number .ensures) (puts-then (c .before .before .before .before .before .before .before .before .before .before .before .before .before .before .before .before .before .put-number2 .ensures) (puts-then (c .before .before .before .before .before .before .before .before .before .before .before .before .put-bytes .ensures) (puts-then (puts-is (c .before .before .before .before .before .before .before .put-name .ensures) (ap (nameText (c .before .before .before .before .before .before .before .before .before .before .before .before .before .before .before .before .before .before .before .before .before .before .before .before .before .before .before .args .file .now)) (c .before .before .before .before .before .before .before .before .value .ensures .is))) (c .before .before .put-bytes2 .ensures))))))
+returns c =
+    let p7 = c .before .before in
+    let p6 = p7 .before .before .before .before .before in
+    let p5 = p6 .before in
+    let p4 = p5 .before .before .before .before in
+    let p3 = p4 .before .before .before .before .before in
+    let p2 = p3 .before .before .before .before .before in
+    let p1 = p2 .before .before .before .before .before in
+    rw div-one (puts-line (puts-then (p2 .put-number .ensures) (puts-then (p3 .put-number2 .ensures) (puts-then (p4 .put-bytes .ensures) (puts-then (puts-is (p6 .put-name .ensures) (ap (nameText (p1 .args .file .now)) (p5 .value .ensures .is))) (p7 .put-bytes2 .ensures))))))
 
 same-length : tie.Need-same-length
 same-length c = returns c .long

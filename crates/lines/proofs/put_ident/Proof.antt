@@ -29,7 +29,13 @@ put-resolution-requires c κs = tt
 
 returns-3 : tie.Need-returns-3
 unfolding identLine
-returns-3 c = rw (eq-eqb _ _ (sym (c .before .before .before .before .before .before .before .before .before .before .before .kind .ensures .is) ∙ c .before .before .before .before .before .before .before .before .before .before .if1 .left), ne-eqb _ _ (c .before .before .before .before .before .before .before .before .before .if2 .left)) (puts-line (puts-then (c .before .before .before .before .before .before .put-number .ensures) (c .before .before .put-resolution .ensures)))
+returns-3 c =
+    let p5 = c .before .before in
+    let p4 = p5 .before .before .before .before in
+    let p3 = p4 .before .before .before in
+    let p2 = p3 .before in
+    let p1 = p2 .before in
+    rw (eq-eqb _ _ (sym (p1 .kind .ensures .is) ∙ p2 .if1 .left), ne-eqb _ _ (p3 .if2 .left)) (puts-line (puts-then (p4 .put-number .ensures) (p5 .put-resolution .ensures)))
 
 same-length : tie.Need-same-length
 same-length c = returns-3 c .long

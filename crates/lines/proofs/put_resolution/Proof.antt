@@ -26,7 +26,11 @@ same-length c = search needs
 
 returns : tie.Need-returns
 unfolding resolutionText
-returns c = rw (eq-eqb _ _ (c .before .before .before .before .before .before .before .before .before .before .if1 .taken)) (puts-line (puts-then (c .before .before .before .before .before .before .before .put-number .ensures) (c .before .before .put-bytes .ensures)))
+returns c =
+    let p3 = c .before .before in
+    let p2 = p3 .before .before .before .before .before in
+    let p1 = p2 .before .before .before in
+    rw (eq-eqb _ _ (p1 .if1 .taken)) (puts-line (puts-then (p2 .put-number .ensures) (p3 .put-bytes .ensures)))
 
 slice-aggregate-put-choice : tie.Need-slice-aggregate-put-choice
 slice-aggregate-put-choice c = refl
@@ -54,7 +58,13 @@ put-bytes-requires-2 c κs = tt
 
 returns-2 : tie.Need-returns-2
 unfolding resolutionText
-returns-2 c = rw (ne-eqb _ _ (c .before .before .before .before .before .before .before .before .before .before .before .before .before .before .before .before .before .before .before .before .if1 .left), div-one) (puts-line (puts-then (c .before .before .before .before .before .before .before .before .before .before .before .before .before .before .before .before .put-choice .ensures) (puts-then (c .before .before .before .before .before .before .before .before .before .before .before .before .put-decimal .ensures) (puts-then (c .before .before .before .before .before .before .before .put-number2 .ensures) (c .before .before .put-bytes2 .ensures)))))
+returns-2 c =
+    let p5 = c .before .before in
+    let p4 = p5 .before .before .before .before .before in
+    let p3 = p4 .before .before .before .before .before in
+    let p2 = p3 .before .before .before .before in
+    let p1 = p2 .before .before .before .before in
+    rw (ne-eqb _ _ (p1 .if1 .left), div-one) (puts-line (puts-then (p2 .put-choice .ensures) (puts-then (p3 .put-decimal .ensures) (puts-then (p4 .put-number2 .ensures) (p5 .put-bytes2 .ensures)))))
 
 same-length-2 : tie.Need-same-length-2
 same-length-2 c = returns-2 c .long

@@ -35,7 +35,13 @@ put-bytes-requires-2 c κs = tt
 
 returns : tie.Need-returns
 unfolding scopeLine
-returns c = puts-line (puts-then (c .before .before .before .before .before .before .before .before .before .before .before .before .before .before .before .before .before .before .before .before .before .put-number .ensures) (puts-then (c .before .before .before .before .before .before .before .before .before .before .before .before .before .before .before .before .put-number2 .ensures) (puts-then (c .before .before .before .before .before .before .before .before .before .before .before .put-bytes .ensures) (puts-then (c .before .before .before .before .before .before .before .put-names .ensures) (c .before .before .put-bytes2 .ensures)))))
+returns c =
+    let p5 = c .before .before in
+    let p4 = p5 .before .before .before .before .before in
+    let p3 = p4 .before .before .before .before in
+    let p2 = p3 .before .before .before .before .before in
+    let p1 = p2 .before .before .before .before .before in
+    puts-line (puts-then (p1 .put-number .ensures) (puts-then (p2 .put-number2 .ensures) (puts-then (p3 .put-bytes .ensures) (puts-then (p4 .put-names .ensures) (p5 .put-bytes2 .ensures)))))
 
 same-length : tie.Need-same-length
 same-length c = returns c .long

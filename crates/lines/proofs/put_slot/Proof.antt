@@ -27,7 +27,11 @@ same-length c = search needs
 
 returns-2 : tie.Need-returns-2
 unfolding slotName
-returns-2 c = rw (eq-eqb _ _ (c .before .before .before .before .before .before .before .before .before .if1 .left), div-one) (puts-line (puts-then (c .before .before .before .before .before .before .put-bytes .ensures) (c .before .before .put-name .ensures)))
+returns-2 c =
+    let p3 = c .before .before in
+    let p2 = p3 .before .before .before .before in
+    let p1 = p2 .before .before .before in
+    rw (eq-eqb _ _ (p1 .if1 .left), div-one) (puts-line (puts-then (p2 .put-bytes .ensures) (p3 .put-name .ensures)))
 
 pub put-slot-spec : {M : Type 1} → statement M
 put-slot-spec =

@@ -27,7 +27,13 @@ same-length c = search needs
 
 returns : tie.Need-returns
 unfolding nameText
-returns c = puts-is (c .before .before .put-bytes .ensures) (c .before .before .before .before .spelled .ensures ∙ ap₂ (λ (nm pool : List ℕ). spelled nm pool (c .before .before .before .before .before .before .before .before .before .args .name)) (c .before .before .before .before .before .before .names .ensures) (c .before .before .before .before .before .pool .ensures))
+returns c =
+    let p5 = c .before .before in
+    let p4 = p5 .before .before in
+    let p3 = p4 .before in
+    let p2 = p3 .before in
+    let p1 = p2 .before .before .before in
+    puts-is (p5 .put-bytes .ensures) (p4 .spelled .ensures ∙ ap₂ (λ (nm pool : List ℕ). spelled nm pool (p1 .args .name)) (p2 .names .ensures) (p3 .pool .ensures))
 
 pub put-name-spec : {M : Type 1} → statement M
 put-name-spec =

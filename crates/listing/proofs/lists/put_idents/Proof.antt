@@ -36,7 +36,13 @@ loop-less : tie.Need-loop-less Inv-loop μ-loop
 loop-less c = omega (arith, c .before .before .before .before .before .before .before .node-count .ensures .is)
 
 loop-again : tie.Need-loop-again Inv-loop μ-loop
-loop-again c = (omega (arith, c .before .before .before .before .before .before .before .node-count .ensures .is), rows-more (c .before .before .before .before .before .before .loop .inv .1) (puts-is (c .before .before .put-ident .ensures) (ap (identLine (c .before .before .before .before .before .before .before .before .before .before .before .args .file .now) (c .before .before .before .before .before .before .loop .i)) (c .before .before .before .at .ensures))))
+loop-again c =
+    let p5 = c .before .before in
+    let p4 = p5 .before in
+    let p3 = p4 .before .before .before in
+    let p2 = p3 .before in
+    let p1 = p2 .before .before .before .before in
+    (omega (arith, p2 .node-count .ensures .is), rows-more (p3 .loop .inv .1) (puts-is (p5 .put-ident .ensures) (ap (identLine (p1 .args .file .now) (p3 .loop .i)) (p4 .at .ensures))))
 
 same-length : tie.Need-same-length Inv-loop μ-loop
 same-length c = c .before .loop .inv .1 .puts .long
