@@ -1,7 +1,7 @@
 -- The lines of document 01's listing ("One listing in full"): each as its pieces, in order.
 -- Records are read by their widths (`scope`'s Packed): `getD row 2 0` is field 2, counted from 0.
 use Prim.Native.Nat.{ℕ}
-use mathlib.Core.Bool.{Bool, cond, _||_}
+use mathlib.Core.Bool.{cond}
 use mathlib.Core.List.{List, [], _∷_, _++_}
 use lib.Dec.{eqb}
 use lib.ListN.{length, getD}

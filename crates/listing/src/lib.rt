@@ -4,6 +4,7 @@ mod lists;
 mod read;
 
 ghost use Rattle.scope.specs.Buffers.{buffers};
+ghost use mathlib.Core.List.{[], _∷_};
 ghost use Rattle.text.specs.Window.{Window, Puts};
 ghost use Rattle.listing.specs.Text.{textOf, acceptedText, Listed};
 ghost use lib.ListN.{length};
@@ -24,7 +25,7 @@ fn put_accepted(
     copies: &[u32],
     errors: &[u32],
 ) -> Cursor
-    ensures { λ r. ⌜ Puts (acceptedText (now (file .entry)) answer (buffers (now (nodes .entry)) (now (bindings .entry)) (now («module» .entry)) (now (scopes .entry)) (now (slots .entry)) (now (copies .entry)) (now (errors .entry)))) c (now (out .entry)) r (now (out .exit)) ⌝ }
+    ensures { λ r. ⌜ Puts (acceptedText (now (file .entry)) answer (buffers (now (nodes .entry)) (now (bindings .entry)) (now («module» .entry)) (now (scopes .entry)) (now (slots .entry)) (now (copies .entry)) (now (errors .entry))) ∷ []) c (now (out .entry)) r (now (out .exit)) ⌝ }
 {
     let mut k = lines::put_counts(out, c, answer);
     k = lists::put_bindings(out, k, file, read::front64(bindings, answer.bindings));

@@ -1,5 +1,7 @@
 // The lists: a line for each record, in order.
 ghost use mathlib.Core.Path.{_≡_};
+ghost use mathlib.Core.List.{[], _∷_};
+ghost use Rattle.nodefile.specs.Node.{Is};
 ghost use Rattle.text.specs.Window.{Puts};
 ghost use Rattle.listing.specs.Lines.{identLine, scopeLine, scopeNames};
 ghost use Rattle.listing.specs.Text.{bindingLines, entryLines, scopeLines, copyLines, identLines, errorLines, isScope, scopeCount};
@@ -8,7 +10,7 @@ use crate::read;
 use text::Cursor;
 
 pub fn put_bindings(out: &mut [u8], c: Cursor, file: &[u8], list: &[u64]) -> Cursor
-    ensures { λ r. ⌜ Puts (bindingLines (now (file .entry)) (now (list .entry))) c (now (out .entry)) r (now (out .exit)) ⌝ }
+    ensures { λ r. ⌜ Puts (bindingLines (now (file .entry)) (now (list .entry)) ∷ []) c (now (out .entry)) r (now (out .exit)) ⌝ }
 {
     let mut k = c;
     let mut i = 0;
@@ -20,7 +22,7 @@ pub fn put_bindings(out: &mut [u8], c: Cursor, file: &[u8], list: &[u64]) -> Cur
 }
 
 pub fn put_entries(out: &mut [u8], c: Cursor, file: &[u8], list: &[u32]) -> Cursor
-    ensures { λ r. ⌜ Puts (entryLines (now (file .entry)) (now (list .entry))) c (now (out .entry)) r (now (out .exit)) ⌝ }
+    ensures { λ r. ⌜ Puts (entryLines (now (file .entry)) (now (list .entry)) ∷ []) c (now (out .entry)) r (now (out .exit)) ⌝ }
 {
     let mut k = c;
     let mut i = 0;
@@ -33,7 +35,7 @@ pub fn put_entries(out: &mut [u8], c: Cursor, file: &[u8], list: &[u32]) -> Curs
 
 // The names of a scope's slots, in order.
 fn put_names(out: &mut [u8], c: Cursor, file: &[u8], slots: &[u32], scope: u64) -> Cursor
-    ensures { λ r. ⌜ Puts (scopeNames (now (file .entry)) (now (slots .entry)) scope) c (now (out .entry)) r (now (out .exit)) ⌝ }
+    ensures { λ r. ⌜ Puts (scopeNames (now (file .entry)) (now (slots .entry)) scope ∷ []) c (now (out .entry)) r (now (out .exit)) ⌝ }
 {
     let mut k = c;
     let mut i = 0;
@@ -46,7 +48,7 @@ fn put_names(out: &mut [u8], c: Cursor, file: &[u8], slots: &[u32], scope: u64) 
 
 // The record of scope s, and its slots.
 fn put_scope(out: &mut [u8], c: Cursor, file: &[u8], slots: &[u32], s: u64, r: u64) -> Cursor
-    ensures { λ e. ⌜ Puts (scopeLine (now (file .entry)) (now (slots .entry)) s r) c (now (out .entry)) e (now (out .exit)) ⌝ }
+    ensures { λ e. ⌜ Puts (scopeLine (now (file .entry)) (now (slots .entry)) s r ∷ []) c (now (out .entry)) e (now (out .exit)) ⌝ }
 {
     let mut k = lines::put_number(out, c, b"S ", s);
     k = lines::put_number(out, k, b" ", r / 65536 % 65536);
@@ -66,7 +68,7 @@ fn is_scope(kind: u64) -> bool
 
 // The number of Defs and Lambdas.
 fn scope_count(file: &[u8]) -> usize
-    ensures { λ r. ⌜ r ≡ scopeCount (now (file .entry)) ⌝ }
+    ensures { λ r. ⌜ Is (scopeCount (now (file .entry))) 65536 r ⌝ }
 {
     let n = nodefile::node_count(file) as usize;
     let mut s = 0;
@@ -82,7 +84,7 @@ fn scope_count(file: &[u8]) -> usize
 
 // Scope 0 and each Def's and Lambda's.
 pub fn put_scopes(out: &mut [u8], c: Cursor, file: &[u8], scopes: &[u32], slots: &[u32]) -> Cursor
-    ensures { λ r. ⌜ Puts (scopeLines (now (file .entry)) (now (scopes .entry)) (now (slots .entry))) c (now (out .entry)) r (now (out .exit)) ⌝ }
+    ensures { λ r. ⌜ Puts (scopeLines (now (file .entry)) (now (scopes .entry)) (now (slots .entry)) ∷ []) c (now (out .entry)) r (now (out .exit)) ⌝ }
 {
     let n = scope_count(file) + 1;
     let mut k = c;
@@ -95,7 +97,7 @@ pub fn put_scopes(out: &mut [u8], c: Cursor, file: &[u8], scopes: &[u32], slots:
 }
 
 pub fn put_copies(out: &mut [u8], c: Cursor, list: &[u32]) -> Cursor
-    ensures { λ r. ⌜ Puts (copyLines (now (list .entry))) c (now (out .entry)) r (now (out .exit)) ⌝ }
+    ensures { λ r. ⌜ Puts (copyLines (now (list .entry)) ∷ []) c (now (out .entry)) r (now (out .exit)) ⌝ }
 {
     let mut k = c;
     let mut i = 0;
@@ -108,7 +110,7 @@ pub fn put_copies(out: &mut [u8], c: Cursor, list: &[u32]) -> Cursor
 
 // A node's line: none unless it is an Ident with an outcome.
 fn put_ident(out: &mut [u8], c: Cursor, kind: u64, i: usize, r: u64) -> Cursor
-    ensures { λ e. ⌜ Puts (identLine kind i r) c (now (out .entry)) e (now (out .exit)) ⌝ }
+    ensures { λ e. ⌜ Puts (identLine kind i r ∷ []) c (now (out .entry)) e (now (out .exit)) ⌝ }
 {
     if kind != 11 {
         return c;
@@ -121,7 +123,7 @@ fn put_ident(out: &mut [u8], c: Cursor, kind: u64, i: usize, r: u64) -> Cursor
 }
 
 pub fn put_idents(out: &mut [u8], c: Cursor, file: &[u8], nodes: &[u32]) -> Cursor
-    ensures { λ r. ⌜ Puts (identLines (now (file .entry)) (now (nodes .entry))) c (now (out .entry)) r (now (out .exit)) ⌝ }
+    ensures { λ r. ⌜ Puts (identLines (now (file .entry)) (now (nodes .entry)) ∷ []) c (now (out .entry)) r (now (out .exit)) ⌝ }
 {
     let n = nodefile::node_count(file) as usize;
     let mut k = c;
@@ -134,7 +136,7 @@ pub fn put_idents(out: &mut [u8], c: Cursor, file: &[u8], nodes: &[u32]) -> Curs
 }
 
 pub fn put_errors(out: &mut [u8], c: Cursor, file: &[u8], list: &[u32]) -> Cursor
-    ensures { λ r. ⌜ Puts (errorLines (now (file .entry)) (now (list .entry))) c (now (out .entry)) r (now (out .exit)) ⌝ }
+    ensures { λ r. ⌜ Puts (errorLines (now (file .entry)) (now (list .entry)) ∷ []) c (now (out .entry)) r (now (out .exit)) ⌝ }
 {
     let mut k = c;
     let mut i = 0;

@@ -46,7 +46,7 @@ fn node(list: &[u8], i: usize) -> &[u8]
     ensures { λ r. ⌜ now r ≡ drop (8 * i) (now (list .entry)) ⌝ }
 {
     if i > list.len() / 8 {
-        return &list[list.len()..];
+        return &list[..0];
     }
     let start = 8 * i;
     &list[start..]

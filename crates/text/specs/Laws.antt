@@ -1,6 +1,6 @@
 -- What callers use of the window.
 --     puts-none, puts-then              no piece; some pieces and then more
---     puts-text, puts-line              pieces as one text
+--     puts-text, puts-line, puts-is     pieces as one text; the same text in other words
 --     rows-none, rows-more, rows-end    a text for each number below n, one after the other: before the first, one more, the last
 --     rows-bytes                        a list of bytes, byte by byte
 --     window-of                         from the first byte to the last
@@ -26,8 +26,11 @@ module _ {c c₁ : Cursor} {out out₁ : List ℕ} where
   pub puts-line : {ps : List (List ℕ)} → Puts ps c out c₁ out₁ → Puts (joined ps ∷ []) c out c₁ out₁
   puts-line p = puts-text p refl
 
-  pub rows-end : {f : ℕ → List ℕ} {i n : ℕ} → Rows f i c out c₁ out₁ → i ≡ n → Puts (each f n ∷ []) c out c₁ out₁
-  rows-end r e = rw (← e) (r .puts)
+  pub puts-is : {t u : List ℕ} → Puts (t ∷ []) c out c₁ out₁ → t ≡ u → Puts (u ∷ []) c out c₁ out₁
+  puts-is p e = rw (← e) p
+
+  pub rows-end : {f : ℕ → List ℕ} {i n : ℕ} → Rows f i c out c₁ out₁ → i ≤ n → n ≤ i → Puts (each f n ∷ []) c out c₁ out₁
+  rows-end {f} {i} {n} r h l = let e : i ≡ n = omega arith in rw (← e) (r .puts)
 
 pub rows-none : (f : ℕ → List ℕ) (c : Cursor) (out : List ℕ) → Rows f 0 c out c out
 rows-none f c out = record { puts = puts-line (puts-none c out) }
@@ -47,8 +50,8 @@ each-byte : (bytes : List ℕ) (n : ℕ) → n ≤ length bytes → each (λ j. 
 each-byte bytes zero h = refl
 each-byte bytes (suc n) h = rw (each-byte bytes n (omega arith)) (sym (take-suc bytes n 0 (omega arith)))
 
-pub rows-bytes : {bytes : List ℕ} {i : ℕ} {c c₁ : Cursor} {out out₁ : List ℕ} → Rows (λ j. getD bytes j 0 ∷ []) i c out c₁ out₁ → i ≡ length bytes → Puts (bytes ∷ []) c out c₁ out₁
-rows-bytes {bytes} r e = rw (each-byte bytes (length bytes) (omega arith), take-length) at (rows-end r e)
+pub rows-bytes : {bytes : List ℕ} {i : ℕ} {c c₁ : Cursor} {out out₁ : List ℕ} → Rows (λ j. getD bytes j 0 ∷ []) i c out c₁ out₁ → i ≤ length bytes → length bytes ≤ i → Puts (bytes ∷ []) c out c₁ out₁
+rows-bytes {bytes} r h l = rw (each-byte bytes (length bytes) (omega arith), take-length) at (rows-end r h l)
 
 pub window-of : {c c₁ : Cursor} {out out₁ out₂ : List ℕ} {from n : ℕ} {t : List ℕ} → Begun from c → Puts (t ∷ []) c out c₁ out₁ → Finished c₁ out₁ n out₂ → Window t from (length out) out₂ n
 window-of {out = out} {from = from} {t = t} b p f = rw (p .long, append-nil) at (f .window from (t ++ []) (p .more from [] (b .none out)))

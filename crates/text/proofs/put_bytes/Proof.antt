@@ -37,7 +37,7 @@ same-length : tie.Need-same-length Inv-loop μ-loop
 same-length c = c .before .loop .inv .1 .puts .long
 
 returns : tie.Need-returns Inv-loop μ-loop
-returns c = rows-bytes (c .before .loop .inv .1) (omega arith)
+returns c = rows-bytes (c .before .loop .inv .1) (c .before .loop .inv .0) (c .loop-test .left)
 
 pub put-bytes-spec : {M : Type 1} → statement M
 put-bytes-spec =
