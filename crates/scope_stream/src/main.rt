@@ -2,7 +2,6 @@
 // each Name (`N node M|L slot binding`) and for each slot in order of making (`T scope name`), then the byte 255 four times.
 // It ends with the stream, or at a file of more than 65,536 bytes.
 use libc::STDOUT_FILENO;
-use scope::Answer;
 
 fn say(text: &[u8]) {
     io::write_all(STDOUT_FILENO, text);
@@ -27,13 +26,21 @@ fn name_line(node: usize, record: u32) {
     say(b"\n");
 }
 
+// The line for node i, if it is a Name.
+fn node_line(list: &[u8], i: usize, record: u32) {
+    if i >= list.len() / 8 {
+        return;
+    }
+    let start = 8 * i;
+    if nodefile::kind(&list[start..]) == 8 {
+        name_line(i, record);
+    }
+}
+
 fn name_lines(list: &[u8], records: &[u32]) {
     let mut i = 0;
-    while i < records.len() && i < list.len() / 8 {
-        let start = 8 * i;
-        if nodefile::kind(&list[start..]) == 8 {
-            name_line(i, records[i]);
-        }
+    while i < records.len() {
+        node_line(list, i, records[i]);
         i += 1;
     }
 }
@@ -52,46 +59,16 @@ fn slot_line(file: &[u8], record: u32) {
 
 fn slot_lines(file: &[u8], count: usize, records: &[u32]) {
     let mut i = 0;
-    while i < records.len() && i < count {
+    while i < records.len() {
+        if i >= count {
+            return;
+        }
         slot_line(file, records[i]);
         i += 1;
     }
 }
 
-// The windows of the listing, one after the other.
-fn show(
-    file: &[u8],
-    a: Answer,
-    nodes: &[u32],
-    bindings: &[u64],
-    module: &[u32],
-    scopes: &[u32],
-    slots: &[u32],
-    copies: &[u32],
-    errors: &[u32],
-) {
-    let mut window = io::large_buffer();
-    let mut from: usize = 0;
-    let mut n: usize = 65536;
-    while n == 65536 && from < 1073741824 {
-        n = listing::print(
-            file,
-            a,
-            nodes,
-            bindings,
-            module,
-            scopes,
-            slots,
-            copies,
-            errors,
-            from,
-            &mut window,
-        );
-        io::write_all(STDOUT_FILENO, &window[..n]);
-        from += 65536;
-    }
-}
-
+// The listing, then the lines for Names and slots.
 fn list(file: &[u8]) {
     let mut nodes = [0u32; 2048];
     let mut bindings = [0u64; 2304];
@@ -110,22 +87,12 @@ fn list(file: &[u8]) {
         &mut copies,
         &mut errors,
     );
-    show(
-        file,
-        a,
-        &nodes,
-        &bindings,
-        &module,
-        &scopes,
-        &slots,
-        &copies,
-        &errors,
-    );
+    lister::show_all(file);
     if a.number == 0 {
         name_lines(nodefile::nodes(file), &nodes);
         slot_lines(file, a.slots, &slots);
     }
-    io::write_all(STDOUT_FILENO, b"\xff\xff\xff\xff");
+    say(b"\xff\xff\xff\xff");
 }
 
 // Lists the next file; false at the end.

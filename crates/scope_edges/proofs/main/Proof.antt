@@ -1,4 +1,4 @@
--- `scope_edges::main` meets its contract: it ends, since it judges at most so many files. Assumes nothing.
+-- `scope_edges::main` meets its contract: it ends, since it tries at most so many files.
 use mathlib.Core.Path.{_≡_}
 use lib.ListN.{length}
 use borrow.Author.Needs.{needs}
