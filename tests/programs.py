@@ -10,6 +10,8 @@ import subprocess
 
 import stream
 
+END = b"\xff" * 4
+
 
 class Batch:
     """A command that reads a stream of files and writes the stream of its answers."""
@@ -17,10 +19,13 @@ class Batch:
     def __init__(self, command):
         self.command = shlex.split(command)
 
+    def split(self, output):
+        return list(stream.read(io.BytesIO(output)))
+
     def answers(self, files):
         done = subprocess.run(self.command, input=b"".join(map(stream.framed, files)), stdout=subprocess.PIPE)
         if done.returncode == 0:
-            answers = list(stream.read(io.BytesIO(done.stdout)))
+            answers = self.split(done.stdout)
             if len(answers) != len(files):
                 raise SystemExit(f"{shlex.join(self.command)}: {len(answers)} answers to {len(files)} files")
             return answers
@@ -28,6 +33,16 @@ class Batch:
             return [no_answer(done.returncode)]
         half = len(files) // 2
         return self.answers(files[:half]) + self.answers(files[half:])
+
+
+class Ended(Batch):
+    """A command that reads a stream of files and writes the byte 255 four times behind each answer."""
+
+    def split(self, output):
+        *answers, rest = output.split(END)
+        if rest:
+            raise SystemExit(f"{shlex.join(self.command)}: an answer without end")
+        return answers
 
 
 class Each:

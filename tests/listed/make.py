@@ -1,5 +1,5 @@
 #!/usr/bin/env python3
-"""Makes files.bin, accepted files, and listings.txt, the oracle's plain listing of each.
+"""Makes files.bin, accepted files, listings.txt, the oracle's plain listing of each, and full.bin, its full one.
 
 For each rule of rules.py, random files are taken whose listing changes when that rule is
 broken: some are shrunk, as far as the listing still changes, some stay as they are. Before them
@@ -7,6 +7,8 @@ come document 01's examples, after them random files and the limits. The files a
 every run; the listings are the oracle's, and the mirror must agree.
 
 files.bin: a stream, each file preceded by its length, 4 bytes, most significant first.
+full.bin: for each file the listing with --full, then the byte 255 four times. The proved program
+scope_stream is run on files.bin and must write full.bin: they stand in its crate, as stdin and stdout.
 listings.txt: for each file a line `= NUMBER LENGTH NOTES`, then LENGTH bytes, its listing. The notes
 are the rules that the file tells broken from kept (by their names in rules.py), or what it is.
 """
@@ -27,7 +29,7 @@ import mirror  # noqa: E402
 import stream  # noqa: E402
 from examples import EXAMPLES  # noqa: E402
 from generate import accepted_files  # noqa: E402
-from programs import Batch  # noqa: E402
+from programs import END, Batch  # noqa: E402
 from rawfile import Raw  # noqa: E402
 from rules import RULES, Broken  # noqa: E402
 from second_judge import judge  # noqa: E402
@@ -86,8 +88,11 @@ def main():
     options = parser.parse_args()
     files = noted()
     listings = Batch(options.oracle).answers(list(files))
+    fulls = Batch(options.oracle + " --full").answers(list(files))
     with open(HERE / "files.bin", "wb") as target:
         stream.write(target, files)
+    with open(HERE / "full.bin", "wb") as target:
+        target.write(b"".join(full + END for full in fulls))
     with open(HERE / "listings.txt", "wb") as target:
         for number, ((data, notes), listing) in enumerate(zip(files.items(), listings, strict=True)):
             if listing != mirror.answer(data):

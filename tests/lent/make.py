@@ -1,0 +1,76 @@
+#!/usr/bin/env python3
+"""Makes what the program scope_edges is run on, and what it must write: crates/scope_edges/stdin and stdout.
+
+Each file is resolved 15 times, into buffers of their full lengths with each of the seven in turn
+one element short, then with each in turn 16 longer, then with none. The mirror says which elements
+are not zero then.
+"""
+
+import random
+import sys
+from pathlib import Path
+
+HERE = Path(__file__).resolve().parent
+sys.path.insert(0, str(HERE.parent))
+
+import edges  # noqa: E402
+import lexical  # noqa: E402
+import mirror  # noqa: E402
+import second_judge  # noqa: E402
+import stream  # noqa: E402
+from examples import EXAMPLES  # noqa: E402
+
+CRATE = HERE.parent.parent / "crates/scope_edges"
+
+
+def filled(rows):
+    """How many rows are packed as something else than zero."""
+    return sum(any(row) for row in rows)
+
+
+def line(number, counts, elements):
+    return "answer {} counts {} filled {}\n".format(number, *(" ".join(map(str, part)) for part in (counts, elements)))
+
+
+def refusal(number):
+    return line(number, [0] * 5, [0] * 7)
+
+
+def expected(data):
+    """The line for a file in buffers that are long enough."""
+    number, reading = second_judge.judged(data)
+    if number:
+        return refusal(number)
+    F = mirror.file_of(reading)
+    st = lexical.resolved(F)
+    if len(st.slots) > mirror.SLOT_LIMIT:
+        return refusal(12)
+    r = lexical.records(F, st)
+    entries = [(name, public, slot) for name, _, _, public, _, _, local, slot in r.bindings if not local]
+    return line(0, map(len, (r.bindings, entries, r.slots, r.copies, r.errors)),
+                map(filled, ([row[1:] for row in r.names + r.answers], r.bindings, entries, r.scopes, r.slots, r.copies, r.errors)))
+
+
+def files():
+    yield from (data for _, data, _ in EXAMPLES)
+    rng = random.Random("lent")
+    yield from (edges.slots(rng, count) for count in (4095, 4096, 4097))
+    yield edges.everything()
+    first = EXAMPLES[0][1]
+    yield b""
+    yield first[:-1]
+    yield first + b"\0" * 60000
+
+
+def main():
+    made = list(files())
+    with open(CRATE / "stdin", "wb") as target:
+        stream.write(target, made)
+    with open(CRATE / "stdout", "w") as target:
+        for data in made:
+            target.write(refusal(1) * 7 + expected(data) * 8)
+    print(f"{len(made)} files")
+
+
+if __name__ == "__main__":
+    main()
