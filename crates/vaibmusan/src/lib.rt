@@ -63,16 +63,7 @@ pub extern "C" fn vaib_resolve(
 ) -> Answer
     ensures { λ r. ⌜ Resolves (now (file .entry)) (buffers (now (nodes .entry)) (now (bindings .entry)) (now («module» .entry)) (now (scopes .entry)) (now (slots .entry)) (now (copies .entry)) (now (errors .entry))) r (buffers (now (nodes .exit)) (now (bindings .exit)) (now («module» .exit)) (now (scopes .exit)) (now (slots .exit)) (now (copies .exit)) (now (errors .exit))) ⌝ }
 {
-    scope::resolve(
-        file,
-        nodes,
-        bindings,
-        module,
-        scopes,
-        slots,
-        copies,
-        errors,
-    )
+    scope::resolve(file, nodes, bindings, module, scopes, slots, copies, errors)
 }
 
 #[no_mangle]
