@@ -10,8 +10,8 @@ static void check_listing(const uint8_t *file, size_t length, uint64_t number) {
     size_t got = vaib_listing(file, length, 0, text, ROOM);
     CHECK(got >= 9 && memcmp(text, "answer ", 7) == 0 && (uint64_t)atoi((const char *)text + 7) == number);
     CHECK(number == 0 || got <= 10);
-    if (got == ROOM) return;
     CHECK(all_zero(text + got, ROOM - got));
+    if (got > ROOM - 61) return;
     size_t from = got > 200 ? got - 100 : 0; /* the end is enough */
     for (size_t here = 61; here == 61; from += here) {
         here = vaib_listing(file, length, from, small, 61);
@@ -67,6 +67,20 @@ static void check_short(const uint8_t *file, size_t length) {
     check_zero_from(&l, 0);
 }
 
+static unsigned long seen[13]; /* files by their number */
+
+static void print_seen(void) {
+    fprintf(stderr, "files by number:");
+    for (int i = 0; i < 13; i++)
+        if (seen[i] > 0) fprintf(stderr, " %d: %lu", i, seen[i]);
+    fprintf(stderr, "\n");
+}
+
+int LLVMFuzzerInitialize(int *argc, char ***argv) {
+    (void)argc, (void)argv;
+    return atexit(print_seen);
+}
+
 int LLVMFuzzerTestOneInput(const uint8_t *data, size_t length) {
     static uint8_t *end;
     static struct vaib_buffers records;
@@ -84,5 +98,6 @@ int LLVMFuzzerTestOneInput(const uint8_t *data, size_t length) {
     check_spellings(file, length, judged);
     check_listing(file, length, a.number);
     CHECK(length == 0 || memcmp(file, data, length) == 0);
+    seen[a.number]++;
     return 0;
 }
