@@ -27,28 +27,40 @@ abbrev pub bindingOf : List ℕ → ℕ
 bindingOf = packed bindingWidths
 
 -- name 16, public 1, slot 15
+abbrev pub entryWidths : List ℕ
+entryWidths = 16 ∷ 1 ∷ 15 ∷ []
+
 abbrev pub entryOf : List ℕ → ℕ
-entryOf = packed (16 ∷ 1 ∷ 15 ∷ [])
+entryOf = packed entryWidths
 
 -- the module entry of a binding, off the binding's record
 abbrev pub entryFrom : ℕ → ℕ
 entryFrom r = let row = unpack bindingWidths r in entryOf (getD row 0 0 ∷ getD row 3 0 ∷ getD row 7 0 ∷ [])
 
 -- two fields of 16: parameter variables and slots, scope and name, node and code
+abbrev pub pairWidths : List ℕ
+pairWidths = 16 ∷ 16 ∷ []
+
 abbrev pub pairOf : List ℕ → ℕ
-pairOf = packed (16 ∷ 16 ∷ [])
+pairOf = packed pairWidths
 
 -- scope 8, parent slot 12, child slot 12
+abbrev pub copyWidths : List ℕ
+copyWidths = 8 ∷ 12 ∷ 12 ∷ []
+
 abbrev pub copyOf : List ℕ → ℕ
-copyOf = packed (8 ∷ 12 ∷ 12 ∷ [])
+copyOf = packed copyWidths
 
 -- class 2, slot or global 15, binding 15, of the row for node i; 0 for a node without a row. A row begins with its node.
+abbrev pub nodeWidths : List ℕ
+nodeWidths = 2 ∷ 15 ∷ 15 ∷ []
+
 unfoldable pub ofNode : ℕ → List ℕ → Bool
 ofNode i row = eqb (getD row 0 0) i
 
 unfoldable pub answerOf : Option (List ℕ) → ℕ
 answerOf none = 0
-answerOf (some row) = packed (2 ∷ 15 ∷ 15 ∷ []) (getD row 1 0 ∷ getD row 2 0 ∷ getD row 3 0 ∷ [])
+answerOf (some row) = packed nodeWidths (getD row 1 0 ∷ getD row 2 0 ∷ getD row 3 0 ∷ [])
 
 unfoldable pub nodeAnswer : File → ℕ → ℕ
 nodeAnswer F i = answerOf (first (ofNode i) (rec.records F .names ++ rec.records F .answers))

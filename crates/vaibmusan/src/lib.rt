@@ -1,9 +1,11 @@
 // Vaibmusan for C and for Rust: include/vaibmusan.h says the same in words. A slice is a pointer and a length.
 ghost use mathlib.Core.Path.{_≡_};
+ghost use lib.ListN.{length};
 ghost use Rattle.judge.specs.Cond.{Judged};
 ghost use Rattle.scope.specs.Buffers.{buffers};
 ghost use Rattle.scope.specs.Answer.{Resolves};
 ghost use Rattle.follow.specs.Place.{followed};
+ghost use Rattle.listing.specs.Text.{Listed};
 ghost use Rattle.vaibmusan.specs.Border.{Stands, homeOf};
 use scope::Answer;
 use store::LocalSlotId;
@@ -77,4 +79,12 @@ pub extern "C" fn vaib_follow(copies: &[u32], around: &[u32], slot: usize) -> Ho
         scope: scope.0,
         slot: own.0,
     }
+}
+
+// As much of the listing as the window `text` shows from byte `from` on.
+#[no_mangle]
+pub extern "C" fn vaib_listing(file: &[u8], from: usize, text: &mut [u8]) -> usize
+    ensures { λ r. ⌜ Listed (now (file .entry)) from (length (now (text .entry))) (now (text .exit)) r ⌝ }
+{
+    listing::listing(file, from, text)
 }

@@ -1,0 +1,64 @@
+-- `listing::lists::put_copies` meets its contract: a line for each copy below `i`.
+-- Assumes nothing.
+use Prim.Native.Nat.{ℕ, _-_, _≤_}
+use mathlib.Core.Path.{ap}
+use native.Mathlib.Omega.{arith}
+use lib.ListN.{length, getD}
+use Rattle.text.specs.Window.{Rows}
+use Rattle.text.specs.Laws.{rows-none, rows-more, rows-end, puts-is}
+use Rattle.listing.specs.Lines.{copyLine}
+use Rattle.listing.proofs.lists.put_copies.Statement.{statement}
+use Rattle.listing.proofs.lists.put_copies.Tie as tie
+
+abbrev Inv-loop : tie.InvT-loop
+Inv-loop out₀ list k₀ i₀ out k i = (i ≤ length list) × Rows (λ (j : ℕ). copyLine (getD list j 0)) i k₀ out₀ k out
+
+abbrev μ-loop : tie.MeasureT-loop
+μ-loop out₀ list k₀ i₀ out k i = length list - i
+
+loop-holds : tie.Need-loop-holds Inv-loop μ-loop
+loop-holds c = (omega arith, rows-none _ _ _)
+
+mul-wide : tie.Need-mul-wide Inv-loop μ-loop
+mul-wide c = omega arith
+
+shared-slice-read-wide : tie.Need-shared-slice-read-wide Inv-loop μ-loop
+shared-slice-read-wide c = omega arith
+
+wide-requires : tie.Need-wide-requires Inv-loop μ-loop
+wide-requires c κs = tt
+
+put-copy-requires : tie.Need-put-copy-requires Inv-loop μ-loop
+put-copy-requires c κs = tt
+
+add-i : tie.Need-add-i Inv-loop μ-loop
+add-i c = omega arith
+
+loop-less : tie.Need-loop-less Inv-loop μ-loop
+loop-less c = omega arith
+
+loop-again : tie.Need-loop-again Inv-loop μ-loop
+loop-again c = (omega arith, rows-more (c .before .before .before .before .before .before .before .loop .inv .1) (puts-is (c .before .before .put-copy .ensures) (ap copyLine (c .before .before .before .wide .ensures))))
+
+same-length : tie.Need-same-length Inv-loop μ-loop
+same-length c = c .before .loop .inv .1 .puts .long
+
+returns : tie.Need-returns Inv-loop μ-loop
+returns c = rows-end (c .before .loop .inv .1) (c .before .loop .inv .0) (c .loop-test .left)
+
+pub put-copies-spec : {M : Type 1} → statement M
+put-copies-spec =
+    tie.close
+    (tie.spec
+    Inv-loop
+    μ-loop
+    loop-holds
+    mul-wide
+    shared-slice-read-wide
+    wide-requires
+    put-copy-requires
+    add-i
+    loop-less
+    loop-again
+    same-length
+    returns)

@@ -1,0 +1,2 @@
+mod Byte
+mod Cleared
