@@ -86,7 +86,7 @@ int LLVMFuzzerTestOneInput(const uint8_t *data, size_t length) {
     static struct vaib_buffers records;
     if (end == NULL) end = before_a_wall(ROOM) + ROOM;
     if (length > ROOM) return 0;
-    uint8_t *file = end - length;
+    uint8_t *file = length > 0 ? end - length : NULL;
     if (length > 0) memcpy(file, data, length);
 
     uint64_t judged = vaib_judge(file, length);

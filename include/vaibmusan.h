@@ -4,8 +4,8 @@
  * definitions behind the words. docs/01-scope.md ("document 01") says what a node file and an answer are.
  *
  * What a caller owes, as no proof sees it:
- *   - a pointer leads to so many elements as the length beside it says, is aligned for its type, and is not null,
- *     also where the length is 0 (any aligned pointer will do there);
+ *   - a pointer leads to so many elements as the length beside it says, and is aligned for its type; only beside
+ *     length 0 may it be null;
  *   - what is written (pointers without const) overlaps nothing else that is handed over;
  *   - there are 512 KB of stack left (seen: 180 KB in vaib_resolve, 260 KB in vaib_listing).
  * The functions keep nothing between calls, take no memory from the heap, and may run in many threads at once.
@@ -93,7 +93,7 @@ struct vaib_answer vaib_resolve(const uint8_t *file, size_t length,
 
 /* Where a local slot has its value from. around: the scopes around a place, outermost first (vaib_scopes_around); slot: a slot of
  * the last of them. As long as the first copy record for that scope and slot says so, the value comes from its parent slot in the
- * scope before; the answer is the scope and slot where that ends. With no scope around, scope 0 and the slot itself.
+ * scope before; the answer is the scope and slot where that ends (scope 0 if no scope is left).
  * For an answer of vaib_resolve and a local Ident, that is the own slot of the Ident's binding. */
 struct vaib_home vaib_follow(const uint32_t *copies, size_t copies_length,
                              const uint32_t *around, size_t around_length,
