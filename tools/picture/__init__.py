@@ -1,0 +1,1 @@
+"""A resolved script for people: its text, each name marked by what it means."""
