@@ -13,7 +13,7 @@ use Rattle.scope.specs.declared.Answer.{Answer}
 use Rattle.scope.specs.Buffers.{Buffers, buffers}
 use Rattle.scope.specs.Packed.{bindingOf, entryOf, pairOf, copyOf, ofNode, answerOf}
 use Rattle.text.specs.Bytes.{ascii, digits, decimal, joined}
-use Rattle.listing.specs.Lines.{nameText, refusalLine, countsLine, sourceText, bindingLine, entryLine, slotName, scopeLine, copyLine, resolutionText, identLine, errorLine}
+use Rattle.lines.specs.Lines.{nameText, refusalLine, countsLine, sourceText, bindingLine, entryLine, slotName, scopeLine, copyLine, resolutionText, identLine, errorLine}
 use Rattle.listing.specs.Text.{isScope, textOf}
 
 -- a node: kind, size, value

@@ -12,7 +12,7 @@ use Rattle.scope.specs.Buffers.{Buffers, buffers}
 use Rattle.scope.specs.Answer.{Resolves}
 use Rattle.text.specs.Bytes.{joined, each}
 use Rattle.text.specs.Window.{Window}
-use Rattle.listing.specs.Lines.{rows, refusalLine, countsLine, bindingLine, entryLine, scopeLine, copyLine, identLine, errorLine}
+use Rattle.lines.specs.Lines.{rows, refusalLine, countsLine, bindingLine, entryLine, scopeLine, copyLine, identLine, errorLine}
 
 -- the number of Defs and Lambdas among the nodes
 unfoldable pub isScope : ℕ → Bool
@@ -35,7 +35,7 @@ abbrev pub copyLines : List ℕ → List ℕ
 copyLines list = rows (λ i r. copyLine r) list
 
 abbrev pub identLines : List ℕ → List ℕ → List ℕ
-identLines bs nodes = each (λ i. identLine (kindAt (nodesOf bs) i) i (getD nodes i 0)) (nodeCount bs)
+identLines bs nodes = each (λ i. identLine bs i (getD nodes i 0)) (nodeCount bs)
 
 abbrev pub errorLines : List ℕ → List ℕ → List ℕ
 errorLines bs list = rows (λ i r. errorLine bs r) list

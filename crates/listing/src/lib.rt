@@ -1,5 +1,4 @@
 // The text of document 01's listing, put into a window that the caller lends.
-mod lines;
 mod lists;
 mod read;
 

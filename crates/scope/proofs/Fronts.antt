@@ -1,15 +1,10 @@
 -- From the working lists to the buffers: what is copied out of them is the packed records, and then zeros.
-use Prim.Native.Nat.{ℕ, suc, _+_, _*_, _<_, _≤_}
-use mathlib.Core.Path.{_≡_, refl, sym, ap, _∙_, subst}
-use mathlib.Core.Bool.{Bool, true, false}
-use mathlib.Core.Logic.{inl, inr}
-use mathlib.Core.List.{List, [], _∷_, _++_, map, map-map}
-use mathlib.Core.Option.{some}
+use Prim.Native.Nat.{ℕ, _+_, _<_, _≤_}
+use mathlib.Core.Path.{_≡_, sym, _∙_}
+use mathlib.Core.List.{List, map, map-map}
 use native.Mathlib.Omega.{arith}
-use native.Mathlib.Nat.{zero-add}
 use native.Mathlib.Decide.{decLt}
-use lib.ListN.{length, getD, getElem?, length-map}
-use Rattle.base.specs.UpTo.{upTo, upTo-length, upTo-get}
+use lib.ListN.{length, getD, length-map}
 use Rattle.store.specs.Sections.{Point, wordAt}
 use Rattle.store.specs.Laws.Points.{Zeros}
 use Rattle.target.specs.Alike.{map-like}

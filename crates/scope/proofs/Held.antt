@@ -1,56 +1,32 @@
 -- What a node's place in the working list holds is its answer: the walks answer by the module's bindings alone, which come first among all.
-use Prim.Native.Nat.{ℕ, suc, _+_, _-_, _<_, _≤_}
-use mathlib.Core.Path.{_≡_, refl, sym, ap, ap₂, _∙_, subst}
-use mathlib.Core.Bool.{true, false}
+use Prim.Native.Nat.{ℕ, suc, _+_, _-_, _<_}
+use mathlib.Core.Path.{_≡_, refl, sym, ap, ap₂, _∙_}
 use mathlib.Core.List.{List, [], _∷_, _++_, map}
-use mathlib.Core.Option.{Option, none, some}
+use mathlib.Core.Option.{Option, some}
 use native.Mathlib.Omega.{arith}
 use native.Mathlib.Decide.{decLt}
 use lib.ListN.{length, getElem?}
 use Rattle.base.specs.UpTo.{at-right}
-use Rattle.lexical.specs.Places.{All, Distinct, at-append, at-left, at-below, map-at, map-from, paired}
+use Rattle.lexical.specs.Places.{All, Distinct, at-append, at-left, map-at, map-from}
 use Rattle.lexical.specs.Tree.{nodesIn}
 use Rattle.lexical.specs.Table.{Headed}
-use Rattle.lexical.specs.Module.{File, Outer, module′, global, missing, outerOf}
-use Rattle.lexical.specs.Meaning.{Site, Meaning, meaning}
-use Rattle.lexical.specs.State.{Binding, Event, Found, local, refused, outside, Named}
+use Rattle.lexical.specs.Module.{File, module′, global, missing}
+use Rattle.lexical.specs.State.{Binding, Event, Found, local, refused, outside}
 use Rattle.lexical.specs.First.{start}
 use Rattle.lexical.specs.Third.{resolved}
 use Rattle.lexical.specs.Records as rec
-use Rattle.lexical.specs.Claims.{Scoped, ModuleBinding, Outcome, Answers, sitesOf, view, told, seen}
-use Rattle.lexical.specs.Theorems.{T1, T1-outcome}
+use Rattle.lexical.specs.Claims.{Scoped}
 use Rattle.lexical.specs.Code.Numbers.{made-start}
-use Rattle.store.specs.Words.{rowNode, rowWord}
 use Rattle.store.specs.Image.{RowOf, name-row, ident-row, HeldAt, held, none-held}
 use Rattle.target.specs.Alike.{at-behind}
 use Rattle.scope.specs.Packed.{nodeAnswer}
 use Rattle.scope.specs.Laws.Words.{answer-word}
+use Rattle.scope.specs.Laws.Early.{found-early}
 use Rattle.scope.specs.Laws.Rows.{rowsOf, answer-at, answer-none}
 
--- ---- a module binding that is found is one of walk one's
+-- ---- what is found is one of walk one's
 
 module _ (F : File) (ok : Scoped F) where
-  early : (n i : ℕ) → ModuleBinding F n i → i < length (start F .made)
-  early n i m = elim (decLt i (length (start F .made))) [ yes h ↦ h | no h ↦ absurd (later (omega arith)) ]
-    where
-      more : List Binding
-      more = made-start F .0
-
-      later : length (start F .made) ≤ i → ⊥
-      later h =
-          let e : getElem? (start F .made ++ more) i ≡ some (m .binding) = subst (λ (l : List Binding). getElem? l i ≡ some (m .binding)) (made-start F .1) (m .stands) in
-          let l : m .binding .local ≡ true = made-start F .2 _ (m .binding) (sym (at-right (start F .made) more i h) ∙ e) in
-          let z : true ≡ false = sym l ∙ m .of-module in
-          let y : _≡_ {A = ℕ} 0 1 = cc in omega arith
-
-  found-early : (j : ℕ) (e : Event) (i : ℕ) → getElem? (resolved F .log) j ≡ some e → e .found ≡ outside (module′ i) → i < length (start F .made)
-  unfolding view told seen Outcome
-  found-early j e i q f =
-      let (s, at, v) = paired view (told (outerOf F)) (resolved F .log) (sitesOf F) (T1 F ok) j e q in
-      let (x, stands, a) = T1-outcome F ok j s at in
-      let m : meaning (outerOf F) s ≡ Meaning.outside (module′ i) = sym (ap (λ (t : ℕ × ℕ × List ℕ × Meaning). t .3) v) ∙ ap seen f in
-      early (s .name) i (subst (λ (k : Meaning). Outcome F s k (rec.answerRow (resolved F .made) (x .node) (x .found)) (rec.errorRow (x .node) (x .found))) m (a .so) .0)
-
   -- so its slot may be read off walk one's bindings
   row-early : (at : ℕ) (f : Found) → ((i : ℕ) → f ≡ outside (module′ i) → i < length (start F .made)) → rec.answerRow (start F .made) at f ≡ rec.answerRow (resolved F .made) at f
   unfolding rec.answerRow rec.outerRow
@@ -66,7 +42,7 @@ module _ (F : File) (ok : Scoped F) where
   answers-early (e ∷ es) h = ap₂ _++_ (row-early (e .node) (e .found) (h 0 e refl)) (answers-early es (λ j x q. h (suc j) x q))
 
   pub answers-same : rec.answers (start F .made) (resolved F .log) ≡ rec.answers (resolved F .made) (resolved F .log)
-  answers-same = answers-early (resolved F .log) (λ j e q i f. found-early j e i q f)
+  answers-same = answers-early (resolved F .log) (λ j e q i f. found-early F ok j e i q f)
 
 -- ---- the rows that the walks kept are the records' rows
 

@@ -1,5 +1,4 @@
 pub mod Owners
-pub mod Within
 pub mod Held
 pub mod Fronts
 pub mod Records

@@ -1,32 +1,25 @@
 -- The module's block before its first target: the lists are noted, and nothing else stands in the working lists.
-use Prim.Native.Nat.{ℕ, _+_, _*_, _<_, _≤_}
-use mathlib.Core.Path.{_≡_, refl, sym, ap, _∙_, subst}
-use mathlib.Core.Bool.{Bool, true, false, true≢false}
-use mathlib.Core.List.{List, [], _∷_, map}
+use Prim.Native.Nat.{ℕ, _+_, _<_}
+use mathlib.Core.Path.{_≡_, refl, sym, _∙_}
+use mathlib.Core.Bool.{false}
+use mathlib.Core.List.{List, [], _∷_}
 use mathlib.Core.Option.{some}
 use native.Mathlib.Omega.{arith}
-use lib.ListN.{length, getD, getElem?, length-map}
-use Rattle.base.specs.UpTo.{upTo-at}
-use Rattle.bits.specs.FieldLaws.{field-lt}
+use lib.ListN.{length, getElem?, length-map}
 use Rattle.lexical.specs.Lists.{first, count, none-some, mapO}
-use Rattle.lexical.specs.Places.{at-below}
-use Rattle.lexical.specs.Tree.{Forest}
 use Rattle.lexical.specs.Binders.{merge}
 use Rattle.lexical.specs.Module.{Entry, File, entryVar}
 use Rattle.lexical.specs.State.{Binding}
 use Rattle.lexical.specs.Block.{freshIn}
 use Rattle.lexical.specs.Second.{rows, rowNames}
-use Rattle.lexical.specs.Records.{paramsOf, captured, answers, errors}
-use Rattle.nodefile.specs.Layout.{entryCount, entriesOf}
-use Rattle.nodefile.specs.FileOf.{fileOf, entryOf}
-use Rattle.nodefile.specs.FileLaws.{entries-count, entries-at}
+use Rattle.lexical.specs.Records.{paramsOf, captured, errors}
 use Rattle.store.specs.declared.ids.State.{State}
-use Rattle.store.specs.Sections.{Mem, mem, orZero, plus}
+use Rattle.store.specs.Sections.{mem, orZero, plus}
 use Rattle.store.specs.Words.{slotWord}
 use Rattle.store.specs.Image.{SlotsIn, Image, lastFrom, before}
 use Rattle.store.specs.Meanings.{numberOf, SavedAll, Stacked, EnvIn, RangesIn}
-use Rattle.store.specs.Rel.{World, Rel, caps}
-use Rattle.store.specs.Blocks.{moduleBlock, nothing, blockSt, blockWorld, slotsOf, bindingsOf, varsOf, placedFrom, InBlock}
+use Rattle.store.specs.Rel.{Rel, caps}
+use Rattle.store.specs.Blocks.{moduleBlock, nothing, blockSt, blockWorld, slotsOf, bindingsOf, varsOf, InBlock}
 use Rattle.store.specs.Laws.Points.{Zeros, point-none}
 use Rattle.store.specs.Laws.Copied.{copies-none, errors-none}
 use Rattle.store.specs.Laws.Nodes.{nodes-none}
@@ -34,13 +27,6 @@ use Rattle.store.specs.Laws.Placed.{placed-length}
 use Rattle.target.specs.Entries.{unsettled, module-opens}
 use Rattle.collect.specs.Declare.{counted}
 use Rattle.note.specs.Noted.{Noted}
-
--- the slots of the file's entries fit their field
-pub entry-slots : (bs : List ℕ) (root : Forest) (i : ℕ) (e : Entry) → getElem? (fileOf bs root .entries) i ≡ some e → e .slot < 32768
-entry-slots bs root i e q =
-    let h : i < entryCount bs = omega (arith, at-below (fileOf bs root .entries) i e q, entries-count bs root) in
-    let z : entryOf (entriesOf bs) i ≡ e = let y : some (entryOf (entriesOf bs) i) ≡ some e = sym (entries-at bs root i h) ∙ q in cc in
-    subst (λ (x : Entry). x .slot < 32768) z (field-lt (entriesOf bs) (32 * i + 17) 15)
 
 -- the state before the first target
 abbrev pub opening : ℕ → State

@@ -2,33 +2,31 @@
 use Prim.Native.Nat.{ℕ, _+_, _-_, _<_, _≤_}
 use mathlib.Core.Path.{_≡_, refl, sym, ap, _∙_, subst}
 use mathlib.Core.Bool.{true, false}
-use mathlib.Core.List.{List, [], _∷_, _++_, map}
+use mathlib.Core.List.{List, _++_}
 use native.Mathlib.Omega.{arith}
 use native.Mathlib.Decide.{decLt}
 use lib.ListN.{length, getD, take, drop, replicate, length-append, length-take, length-drop, length-replicate, length-map, List·getD-append}
 use lib.Seq.{getD-take, getD-drop, getD-append-add, ext-getD, length-take-le}
 use Rattle.lexical.specs.Tree.{Forest}
-use Rattle.lexical.specs.Module.{File}
 use Rattle.lexical.specs.First.{start}
 use Rattle.lexical.specs.Third.{resolved}
 use Rattle.lexical.specs.Records as rec
 use Rattle.lexical.specs.Code.Numbers.{made-start}
 use Rattle.nodefile.specs.Layout.{nodeCount, nodesOf}
-use Rattle.nodefile.specs.Reads.{Reads, reads-one}
+use Rattle.nodefile.specs.Reads.{reads-one}
 use Rattle.nodefile.specs.FileOf.{fileOf}
-use Rattle.store.specs.declared.ids.State.{State}
 use Rattle.store.specs.Sections.{mem}
 use Rattle.store.specs.Rel.{Over, many-slots, many-bindings, many-errors}
 use Rattle.store.specs.Laws.Points.{Zeros, zeros}
 use Rattle.scope.specs.declared.Answer.{Answer}
 use Rattle.scope.specs.declared.Walked.{Walked}
-use Rattle.scope.specs.Buffers.{Buffers, buffers, Zeroed}
+use Rattle.scope.specs.Buffers.{Buffers, buffers}
 use Rattle.scope.specs.Packed.{entryFrom}
 use Rattle.scope.specs.Filled.{Filled, filled-end}
 use Rattle.scope.specs.Copied.{PreCopy, Copied}
 use Rattle.scope.specs.Ready.{Ready}
 use Rattle.scope.specs.Walks.{Ended, PreWalk, WalkDone}
-use Rattle.scope.specs.Answer.{ManySlots, many-slots, refusal, Refused, Given}
+use Rattle.scope.specs.Answer.{many-slots, refusal, Given}
 use Rattle.scope.specs.Accepted.{PreAccepted, Accepting, many, few}
 use Rattle.scope.specs.Laws.Front.{get-past}
 use Rattle.scope.specs.Laws.Readies.{ready-made, ready-errors}

@@ -1,8 +1,8 @@
 -- The three walks one after the other: what each is handed, and what comes of the last.
-use Prim.Native.Nat.{ℕ, _+_, _*_, _<_, _≤_}
-use mathlib.Core.Path.{_≡_, refl, sym, ap, _∙_, subst}
+use Prim.Native.Nat.{ℕ, _*_, _<_, _≤_}
+use mathlib.Core.Path.{_≡_, refl, sym, _∙_, subst}
 use mathlib.Core.Logic.{inl, inr}
-use mathlib.Core.Bool.{Bool, true, false, true≢false}
+use mathlib.Core.Bool.{false, true≢false}
 use mathlib.Core.List.{List, [], _∷_}
 use mathlib.Core.Option.{some}
 use native.Mathlib.Omega.{arith}
@@ -12,7 +12,6 @@ use Rattle.lexical.specs.Places.{In}
 use Rattle.lexical.specs.Tree.{Forest, scopesIn, paramsIn}
 use Rattle.lexical.specs.Binders.{Var, unmarked}
 use Rattle.lexical.specs.Module.{File, moduleVars, outerOf}
-use Rattle.lexical.specs.State.{Binding, St}
 use Rattle.lexical.specs.First.{start}
 use Rattle.lexical.specs.Second.{second}
 use Rattle.lexical.specs.Third.{outermost, resolved}
@@ -20,15 +19,15 @@ use Rattle.lexical.specs.Records as rec
 use Rattle.lexical.specs.Code.Grows.{second-longer, resolved-longer}
 use Rattle.lexical.specs.Code.Visit.{resolved-each}
 use Rattle.lexical.specs.Proof.Modules.{module-length}
-use Rattle.nodefile.specs.Layout.{nodeCount, nodesOf}
+use Rattle.nodefile.specs.Layout.{nodesOf}
 use Rattle.nodefile.specs.Node.{sizeOf}
 use Rattle.nodefile.specs.Reads.{Reads}
 use Rattle.nodefile.specs.FileOf.{fileOf}
 use Rattle.nodefile.specs.FileLaws.{globals-count}
 use Rattle.store.specs.declared.ids.State.{State}
 use Rattle.store.specs.Sections.{Mem, mem, Long}
-use Rattle.store.specs.Rel.{World, Rel, R, Over, many-slots, many-bindings, many-errors, caps}
-use Rattle.store.specs.Blocks.{titles, moduleBlock, RB}
+use Rattle.store.specs.Rel.{World, R, Over, many-slots, many-bindings, many-errors}
+use Rattle.store.specs.Blocks.{moduleBlock}
 use Rattle.target.specs.Target.{BlockIs}
 use Rattle.target.specs.Entries.{unsettled, module-closes}
 use Rattle.collect.specs.Cycle as col
@@ -38,10 +37,11 @@ use Rattle.idents.specs.Cycle as ids
 use Rattle.store.specs.Laws.Points.{Zeros}
 use Rattle.note.specs.Noted.{Noted}
 use Rattle.scope.specs.Ready.{Ready}
-use Rattle.scope.specs.Walks.{Ended, Begun, PreNodes, NodesDone}
+use Rattle.scope.specs.Walks.{Ended, Begun}
 use Rattle.scope.specs.Laws.Readies.{ready-scoped, ready-length}
 use Rattle.scope.proofs.Owners.{second-owners}
-use Rattle.scope.proofs.Opening.{entry-slots, opening, noRows, noParams, module-begins}
+use Rattle.scope.specs.Laws.Bounds.{entry-slots}
+use Rattle.scope.proofs.Opening.{opening, noRows, noParams, module-begins}
 
 module-is : (F : File) → BlockIs (moduleBlock F) moduleIs
 unfolding moduleBlock

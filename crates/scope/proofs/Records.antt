@@ -1,21 +1,20 @@
 -- The seven buffers of a file that is resolved, from the working lists at the end of the walks.
-use Prim.Native.Nat.{ℕ, zero, suc, _+_, _*_, _<_, _≤_}
-use mathlib.Core.Path.{_≡_, refl, sym, ap, _∙_, subst}
+use Prim.Native.Nat.{ℕ, suc, _+_, _*_, _<_, _≤_}
+use mathlib.Core.Path.{_≡_, sym, ap, _∙_, subst}
 use mathlib.Core.Logic.{inl, inr}
-use mathlib.Core.List.{List, [], _∷_, _++_, map}
-use mathlib.Core.Option.{none, some}
+use mathlib.Core.List.{List, [], _∷_, map}
+use mathlib.Core.Option.{some}
 use native.Mathlib.Omega.{arith}
 use native.Mathlib.Nat.{zero-add}
 use native.Mathlib.Decide.{decLt}
-use lib.Dec.{eqb}
 use lib.ListN.{length, getD, getElem?, length-map, length-append}
 use Rattle.base.specs.UpTo.{upTo, upTo-length, upTo-get, at-some}
-use Rattle.lexical.specs.Lists.{first, count, none-some, eqb-true, eqb-not, Opened, absent, present, opened}
-use Rattle.lexical.specs.Places.{All, In, at-left, at-below, at-append, map-at, first-no}
+use Rattle.lexical.specs.Lists.{eqb-true}
+use Rattle.lexical.specs.Places.{In, at-below, at-append, map-at, first-no}
 use Rattle.lexical.specs.Tree.{Forest, scopesIn, paramsIn}
 use Rattle.lexical.specs.Module.{File}
-use Rattle.lexical.specs.State.{Binding, Slot}
-use Rattle.lexical.specs.Block.{inScope, freshIn}
+use Rattle.lexical.specs.State.{Binding}
+use Rattle.lexical.specs.Block.{freshIn}
 use Rattle.lexical.specs.First.{start}
 use Rattle.lexical.specs.Third.{resolved}
 use Rattle.lexical.specs.Records as rec
@@ -29,9 +28,10 @@ use Rattle.store.specs.Sections.{Mem, wordAt}
 use Rattle.store.specs.Words.{bindWord, slotWord, copyWord, errorWord}
 use Rattle.store.specs.Image.{Image}
 use Rattle.store.specs.Rel.{caps}
-use Rattle.store.specs.Laws.Points.{Zeros, word-at, absent-past}
+use Rattle.store.specs.Laws.Points.{Zeros, word-at}
 use Rattle.target.specs.Alike.{map-like}
 use Rattle.collect.specs.Declare.{counted}
+use Rattle.scope.specs.Laws.Lists.{at-in}
 use Rattle.scope.specs.Buffers.{Front}
 use Rattle.scope.specs.Packed.{bindingOf, entryOf, entryFrom, pairOf, copyOf, nodeAnswer}
 use Rattle.scope.specs.Filled.{Filled}
@@ -40,25 +40,15 @@ use Rattle.scope.specs.Walks.{paramsAt}
 use Rattle.scope.specs.Laws.Front.{get-past, front-is, word-get}
 use Rattle.scope.specs.Laws.Words.{binding-word, slot-word, copy-word, scope-word, error-word, entry-word}
 use Rattle.scope.specs.Laws.Readies.{ready-scoped, ready-headed, ready-distinct}
-use Rattle.scope.proofs.Within.{slots-within}
+use Rattle.scope.specs.Laws.Within.{no-scope}
 use Rattle.scope.proofs.Held.{held-answer}
 use Rattle.scope.proofs.Fronts.{filled-front, section-front, map-words}
 
-at-in : (xs : List ℕ) (k x : ℕ) → getElem? xs k ≡ some x → In x xs
-at-in [] k x e = absurd (none-some refl e)
-at-in (y ∷ xs) zero x e = let z : y ≡ x = cc in inl (sym z)
-at-in (y ∷ xs) (suc k) x e = inr (at-in xs k x e)
-
--- a scope that no function has: it has no parameters and no slots
+-- a scope that no function has has no parameters
 no-params : (root : Forest) (s : ℕ) → (In s (scopesIn root) → ⊥) → paramsAt root s ≡ 0
 unfolding rec.paramsOf counted
 no-params root s h = ap rec.paramsOf (first-no (counted s) (paramsIn root) (λ k a e t.
     h (subst (λ (x : ℕ). In x (scopesIn root)) (eqb-true (a .0) s t) (at-in (scopesIn root) k (a .0) (subst (λ (l : List ℕ). getElem? l k ≡ some (a .0)) (params-keys root) (map-at (λ (p : ℕ × ℕ). p .0) (paramsIn root) k a e))))))
-
-no-slots : (s : ℕ) (rs : List Slot) → All (λ (r : Slot). r .scope ≡ s → ⊥) rs → freshIn s rs ≡ 0
-unfolding freshIn count inScope
-no-slots s [] h = refl
-no-slots s (r ∷ rs) h = rw (eqb-not (r .scope) s (h 0 r refl)) (no-slots s rs (λ j x e. h (suc j) x e))
 
 module _ {bs : List ℕ} {root : Forest} (q : Ready bs root) {s : State} {m : Mem} (i : Image (start (fileOf bs root) .made) (paramsAt root) (caps (resolved (fileOf bs root))) (resolved (fileOf bs root)) s m) where
   abbrev F : File
@@ -110,7 +100,7 @@ module _ {bs : List ℕ} {root : Forest} (q : Ready bs root) {s : State} {m : Me
       at j (no h) =
           let a : length (scopesIn root) < j = omega (arith, scopes-length F (resolved F .slots)) in
           let b : paramsAt root j ≡ 0 = no-params root j (λ n. other j a (inr n)) in
-          let c : freshIn j (resolved F .slots) ≡ 0 = no-slots j (resolved F .slots) (λ k r e t. other j a (subst (λ (x : ℕ). In x (0 ∷ scopesIn root)) t (slots-within F k r e))) in
+          let c : freshIn j (resolved F .slots) ≡ 0 = no-scope F j (other j a) in
           omega (arith, get-past (map pairOf rows) j (omega (arith, long)))
 
   -- the bindings' buffer is one of the working lists, and more

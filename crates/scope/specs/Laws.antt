@@ -1,6 +1,25 @@
 -- What the proofs, and whoever reads the buffers, use of these definitions.
+pub mod Lists
 pub mod Front
 pub mod Words
 pub mod Rows
 pub mod Readies
 pub mod Accepts
+pub mod Within
+pub mod Conditions
+pub mod Sites
+pub mod Early
+pub mod Targets
+pub mod Fitting
+pub mod Bounds
+pub mod Events
+pub mod Reading
+pub mod Copies
+pub mod Zero
+pub mod One
+pub mod Narrow
+pub mod Records
+pub mod Told
+pub mod Named
+pub mod Captured
+pub mod Least

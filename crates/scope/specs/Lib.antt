@@ -6,4 +6,6 @@ pub mod Ready
 pub mod Walks
 pub mod Answer
 pub mod Accepted
+pub mod Shown
 pub mod Laws
+pub mod Theorems

@@ -1,7 +1,7 @@
 -- The records of document 01's answer buffers, packed: rows of `lexical`'s records as numbers, fields most significant first.
 use Prim.Native.Nat.{ℕ}
 use mathlib.Core.Bool.{Bool}
-use mathlib.Core.List.{List, [], _∷_, _++_, map}
+use mathlib.Core.List.{List, [], _∷_, _++_}
 use mathlib.Core.Option.{Option, none, some}
 use lib.Dec.{eqb}
 use lib.ListN.{getD}
@@ -19,42 +19,44 @@ fields (w ∷ ws) (x ∷ row) = (w, x) ∷ fields ws row
 abbrev pub packed : List ℕ → List ℕ → ℕ
 packed ws row = pack (fields ws row)
 
--- name 16, source 16, from-module 1, public 1, any 1, captured 1, local 1, slot 15, zero 12
+-- the widths of document 01's records
+-- name, source, from-module, public, any, captured, local, slot, zero
 abbrev pub bindingWidths : List ℕ
 bindingWidths = 16 ∷ 16 ∷ 1 ∷ 1 ∷ 1 ∷ 1 ∷ 1 ∷ 15 ∷ 12 ∷ []
+
+-- name, public, slot
+abbrev pub entryWidths : List ℕ
+entryWidths = 16 ∷ 1 ∷ 15 ∷ []
+
+-- parameter variables and slots; scope and name; node and code
+abbrev pub pairWidths : List ℕ
+pairWidths = 16 ∷ 16 ∷ []
+
+-- scope, parent slot, child slot
+abbrev pub copyWidths : List ℕ
+copyWidths = 8 ∷ 12 ∷ 12 ∷ []
+
+-- class, slot or global, binding
+abbrev pub nodeWidths : List ℕ
+nodeWidths = 2 ∷ 15 ∷ 15 ∷ []
 
 abbrev pub bindingOf : List ℕ → ℕ
 bindingOf = packed bindingWidths
 
--- name 16, public 1, slot 15
-abbrev pub entryWidths : List ℕ
-entryWidths = 16 ∷ 1 ∷ 15 ∷ []
-
 abbrev pub entryOf : List ℕ → ℕ
 entryOf = packed entryWidths
+
+abbrev pub pairOf : List ℕ → ℕ
+pairOf = packed pairWidths
+
+abbrev pub copyOf : List ℕ → ℕ
+copyOf = packed copyWidths
 
 -- the module entry of a binding, off the binding's record
 abbrev pub entryFrom : ℕ → ℕ
 entryFrom r = let row = unpack bindingWidths r in entryOf (getD row 0 0 ∷ getD row 3 0 ∷ getD row 7 0 ∷ [])
 
--- two fields of 16: parameter variables and slots, scope and name, node and code
-abbrev pub pairWidths : List ℕ
-pairWidths = 16 ∷ 16 ∷ []
-
-abbrev pub pairOf : List ℕ → ℕ
-pairOf = packed pairWidths
-
--- scope 8, parent slot 12, child slot 12
-abbrev pub copyWidths : List ℕ
-copyWidths = 8 ∷ 12 ∷ 12 ∷ []
-
-abbrev pub copyOf : List ℕ → ℕ
-copyOf = packed copyWidths
-
--- class 2, slot or global 15, binding 15, of the row for node i; 0 for a node without a row. A row begins with its node.
-abbrev pub nodeWidths : List ℕ
-nodeWidths = 2 ∷ 15 ∷ 15 ∷ []
-
+-- node i's record, of the row that begins with i; 0 for a node without a row
 unfoldable pub ofNode : ℕ → List ℕ → Bool
 ofNode i row = eqb (getD row 0 0) i
 

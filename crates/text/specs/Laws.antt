@@ -4,14 +4,15 @@
 --     rows-none, rows-more, rows-end    a text for each number below n, one after the other: before the first, one more, the last
 --     rows-bytes                        a list of bytes, byte by byte
 --     window-of                         from the first byte to the last
+--     window-part                       what it holds is that part of the text
 --     window-one                        no second window fits
 use Prim.Native.Nat.{ℕ, zero, suc, _+_, _≤_}
 use mathlib.Core.Path.{_≡_, refl, sym, ap, _∙_, subst}
 use mathlib.Core.List.{List, [], _∷_, _++_, append-nil, append-assoc}
 use native.Mathlib.Numerals.{add-one}
 use native.Mathlib.Omega.{arith}
-use lib.ListN.{length, getD, take}
-use lib.Seq.{ext-getD, take-suc, take-length}
+use lib.ListN.{length, getD, take, drop, length-take, length-drop}
+use lib.Seq.{ext-getD, take-suc, take-length, getD-take, getD-drop}
 use Rattle.text.specs.declared.Cursor.{Cursor}
 use Rattle.text.specs.Bytes.{joined, joined-append, each}
 use Rattle.text.specs.Window.{Window, Written, Begun, Puts, Rows, Finished}
@@ -55,6 +56,14 @@ rows-bytes {bytes} r h l = rw (each-byte bytes (length bytes) (omega arith), tak
 
 pub window-of : {c c₁ : Cursor} {out out₁ out₂ : List ℕ} {from n : ℕ} {t : List ℕ} → Begun from c → Puts (t ∷ []) c out c₁ out₁ → Finished c₁ out₁ n out₂ → Window t from (length out) out₂ n
 window-of {out = out} {from = from} {t = t} b p f = rw (p .long, append-nil) at (f .window from (t ++ []) (p .more from [] (b .none out)))
+
+-- what a window holds of its text
+pub window-part : {text : List ℕ} {from len : ℕ} {out : List ℕ} {n : ℕ} → Window text from len out n → take n out ≡ take len (drop from text)
+window-part {text} {from} {len} {out} {n} w =
+    let l : length (take len (drop from text)) ≡ n = rw (length-take, length-drop) (sym (w .count)) in
+    let k : length (take n out) ≡ n = length-take n out ∙ omega (arith, w .long, w .count) in
+    ext-getD 0 (take n out) (take len (drop from text)) (k ∙ sym l)
+    (λ i h. getD-take n out i 0 (omega (arith, k)) ∙ w .shows i (omega (arith, k, w .count)) ∙ sym (getD-take len (drop from text) i 0 (omega (arith, k, w .count)) ∙ getD-drop from text i 0))
 
 pub window-one : {text : List ℕ} {from len : ℕ} {out out′ : List ℕ} {n n′ : ℕ} → Window text from len out n → Window text from len out′ n′ → (out ≡ out′) × (n ≡ n′)
 window-one {out = out} {out′ = out′} p q =

@@ -34,12 +34,24 @@ pub fn put(out: &mut [u8], c: Cursor, byte: u8) -> Cursor
             at: at + 1,
         };
     }
-    c
+    Cursor { skip: 0, at: at }
 }
 
 pub fn put_bytes(out: &mut [u8], c: Cursor, bytes: &[u8]) -> Cursor
     ensures { λ r. ⌜ Puts (now (bytes .entry) ∷ []) c (now (out .entry)) r (now (out .exit)) ⌝ }
 {
+    let skip = c.skip;
+    let at = c.at;
+    // all of them come before the window, or behind it
+    if bytes.len() <= skip {
+        return Cursor {
+            skip: skip - bytes.len(),
+            at: at,
+        };
+    }
+    if out.len() <= at {
+        return Cursor { skip: 0, at: at };
+    }
     let mut k = c;
     let mut i = 0;
     while i < bytes.len() {

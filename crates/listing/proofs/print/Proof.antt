@@ -21,7 +21,12 @@ same-length c = search needs
 
 returns : tie.Need-returns
 unfolding textOf
-returns c = rw (ne-eqb _ _ (c .before .before .before .before .before .before .before .before .if1 .taken)) (window-of (c .before .before .before .before .before .before .before .before .before .before .start .ensures) (c .before .before .before .before .before .before .put-refusal .ensures) (c .before .before .finish .ensures))
+returns c =
+    let p4 = c .before .before in
+    let p3 = p4 .before .before .before .before in
+    let p2 = p3 .before .before in
+    let p1 = p2 .before .before in
+    rw (ne-eqb _ _ (p2 .if1 .taken)) (window-of (p1 .start .ensures) (p3 .put-refusal .ensures) (p4 .finish .ensures))
 
 put-accepted-requires : tie.Need-put-accepted-requires
 put-accepted-requires c κs = tt
@@ -34,7 +39,12 @@ same-length-2 c = search needs
 
 returns-2 : tie.Need-returns-2
 unfolding textOf
-returns-2 c = rw (eq-eqb _ _ (c .before .before .before .before .before .before .before .before .if1 .left)) (window-of (c .before .before .before .before .before .before .before .before .before .before .start .ensures) (c .before .before .before .before .before .before .put-accepted .ensures) (c .before .before .finish2 .ensures))
+returns-2 c =
+    let p4 = c .before .before in
+    let p3 = p4 .before .before .before .before in
+    let p2 = p3 .before .before in
+    let p1 = p2 .before .before in
+    rw (eq-eqb _ _ (p2 .if1 .left)) (window-of (p1 .start .ensures) (p3 .put-accepted .ensures) (p4 .finish2 .ensures))
 
 pub print-spec : {M : Type 1} → statement M
 print-spec =

@@ -45,7 +45,21 @@ put-errors-requires : tie.Need-put-errors-requires
 put-errors-requires c κs = tt
 
 returns : tie.Need-returns
-returns c = puts-line (puts-then (c .before .before .before .before .before .before .before .before .before .before .before .before .before .before .before .before .before .before .before .before .before .before .before .before .before .before .before .before .before .before .before .put-counts .ensures) (puts-then (puts-is (c .before .before .before .before .before .before .before .before .before .before .before .before .before .before .before .before .before .before .before .before .before .before .before .before .before .before .put-bindings .ensures) (ap (λ (l : List ℕ). bindingLines (c .before .before .before .before .before .before .before .before .before .before .before .before .before .before .before .before .before .before .before .before .before .before .before .before .before .before .before .before .before .before .before .before .before .before .before .before .before .before .before .before .before .before .args .file .now) l) (c .before .before .before .before .before .before .before .before .before .before .before .before .before .before .before .before .before .before .before .before .before .before .before .before .before .before .before .front64 .ensures))) (puts-then (puts-is (c .before .before .before .before .before .before .before .before .before .before .before .before .before .before .before .before .before .before .before .before .before .put-entries .ensures) (ap (λ (l : List ℕ). entryLines (c .before .before .before .before .before .before .before .before .before .before .before .before .before .before .before .before .before .before .before .before .before .before .before .before .before .before .before .before .before .before .before .before .before .before .before .before .before .before .before .before .before .before .args .file .now) l) (c .before .before .before .before .before .before .before .before .before .before .before .before .before .before .before .before .before .before .before .before .before .before .front32 .ensures))) (puts-then (puts-is (c .before .before .before .before .before .before .before .before .before .before .before .before .before .before .before .before .put-scopes .ensures) (ap (λ (l : List ℕ). scopeLines (c .before .before .before .before .before .before .before .before .before .before .before .before .before .before .before .before .before .before .before .before .before .before .before .before .before .before .before .before .before .before .before .before .before .before .before .before .before .before .before .before .before .before .args .file .now) (c .before .before .before .before .before .before .before .before .before .before .before .before .before .before .before .before .before .before .before .before .before .before .before .before .before .before .before .before .before .before .before .before .before .before .before .before .before .before .before .before .before .before .args .scopes .now) l) (c .before .before .before .before .before .before .before .before .before .before .before .before .before .before .before .before .before .front322 .ensures))) (puts-then (puts-is (c .before .before .before .before .before .before .before .before .before .before .before .put-copies .ensures) (ap (λ (l : List ℕ). copyLines l) (c .before .before .before .before .before .before .before .before .before .before .before .before .front323 .ensures))) (puts-then (c .before .before .before .before .before .before .before .put-idents .ensures) (puts-is (c .before .before .put-errors .ensures) (ap (λ (l : List ℕ). errorLines (c .before .before .before .before .before .before .before .before .before .before .before .before .before .before .before .before .before .before .before .before .before .before .before .before .before .before .before .before .before .before .before .before .before .before .before .before .before .before .before .before .before .before .args .file .now) l) (c .before .before .before .front324 .ensures)))))))))
+returns c =
+    let p13 = c .before .before in
+    let p12 = p13 .before in
+    let p11 = p12 .before .before .before .before in
+    let p10 = p11 .before .before .before .before in
+    let p9 = p10 .before in
+    let p8 = p9 .before .before .before .before in
+    let p7 = p8 .before in
+    let p6 = p7 .before .before .before .before in
+    let p5 = p6 .before in
+    let p4 = p5 .before .before .before .before in
+    let p3 = p4 .before in
+    let p2 = p3 .before .before .before .before in
+    let p1 = p2 .before .before .before .before .before .before .before .before .before .before .before in
+    puts-line (puts-then (p2 .put-counts .ensures) (puts-then (puts-is (p4 .put-bindings .ensures) (ap (λ (l : List ℕ). bindingLines (p1 .args .file .now) l) (p3 .front64 .ensures))) (puts-then (puts-is (p6 .put-entries .ensures) (ap (λ (l : List ℕ). entryLines (p1 .args .file .now) l) (p5 .front32 .ensures))) (puts-then (puts-is (p8 .put-scopes .ensures) (ap (λ (l : List ℕ). scopeLines (p1 .args .file .now) (p1 .args .scopes .now) l) (p7 .front322 .ensures))) (puts-then (puts-is (p10 .put-copies .ensures) (ap (λ (l : List ℕ). copyLines l) (p9 .front323 .ensures))) (puts-then (p11 .put-idents .ensures) (puts-is (p13 .put-errors .ensures) (ap (λ (l : List ℕ). errorLines (p1 .args .file .now) l) (p12 .front324 .ensures)))))))))
 
 same-length : tie.Need-same-length
 same-length c = returns c .long

@@ -4,14 +4,8 @@
 use mathlib.Core.Path.{_∙_}
 use Rattle.scope.proofs.Passes.{one-pre, two-pre, three-pre, ended, long-kept}
 -- END
-use borrow.Author.Needs.{needs}
 use Rattle.scope.proofs.enter_module.Statement.{statement}
 use Rattle.scope.proofs.enter_module.Tie as tie
-use Rattle.scope.proofs.enter_module.Reads as reads
-use Rattle.scope.proofs.enter_module.Lts as lts
-use Rattle.collect.proofs.collect_defines_recursively.Reads as collect-defines-recursively-reads
-use Rattle.collect.proofs.collect_module.Reads as collect-module-reads
-use Rattle.idents.proofs.resolve_node.Reads as resolve-node-reads
 
 -- src/lib.rt:36:9
 collect-module-requires : tie.Need-collect-module-requires

@@ -1,7 +1,7 @@
 -- HEAD
 -- `scope::resolve` meets its contract, of any file and any buffers.
 -- Assumes nothing.
-use mathlib.Core.Path.{_∙_, subst}
+use mathlib.Core.Path.{subst}
 use Rattle.base.specs.Says.{says-true, says-false}
 use Rattle.judge.specs.Cond.{Judged}
 use Rattle.scope.proofs.Numbers.{too-short, judged, pre-accepted, resolves}
@@ -9,13 +9,6 @@ use Rattle.scope.proofs.Numbers.{too-short, judged, pre-accepted, resol
 use borrow.Author.Needs.{needs}
 use Rattle.scope.proofs.resolve.Statement.{statement}
 use Rattle.scope.proofs.resolve.Tie as tie
-use Rattle.scope.proofs.resolve.Reads as reads
-use Rattle.scope.proofs.resolve.Lts as lts
-use Rattle.judge.proofs.judge.Reads as judge-reads
-use Rattle.scope.proofs.clear.Reads as clear-reads
-use Rattle.scope.proofs.refused.Reads as refused-reads
-use Rattle.scope.proofs.resolve_accepted.Reads as resolve-accepted-reads
-use Rattle.scope.proofs.short.Reads as short-reads
 
 -- src/lib.rt:204:9
 short-requires : tie.Need-short-requires

@@ -9,14 +9,6 @@ use Rattle.scope.proofs.Outcome.{pre-walk, too-many, pre-copy, pre-entr
 use borrow.Author.Needs.{needs}
 use Rattle.scope.proofs.resolve_accepted.Statement.{statement}
 use Rattle.scope.proofs.resolve_accepted.Tie as tie
-use Rattle.scope.proofs.resolve_accepted.Reads as reads
-use Rattle.scope.proofs.resolve_accepted.Lts as lts
-use Rattle.nodefile.proofs.node_count.Reads as node-count-reads
-use Rattle.scope.proofs.copy_out.Reads as copy-out-reads
-use Rattle.scope.proofs.out.clear64.Reads as clear64-reads
-use Rattle.scope.proofs.out.put_entries.Reads as put-entries-reads
-use Rattle.scope.proofs.refused.Reads as refused-reads
-use Rattle.scope.proofs.walk.Reads as walk-reads
 
 -- src/lib.rt:144:24
 sub-walk : tie.Need-sub-walk

@@ -2,19 +2,13 @@
 -- `scope::walk` meets its contract: the lists are noted, and then the nodes are walked over.
 -- Assumes nothing.
 use Prim.Native.Nat.{ℕ}
-use mathlib.Core.Path.{refl, sym, _∙_}
+use mathlib.Core.Path.{sym, _∙_}
 use lib.ListN.{length-replicate}
 use Rattle.store.specs.Laws.Points.{zeros}
 use Rattle.scope.proofs.Passes.{begun, long-made}
 -- END
-use borrow.Author.Needs.{needs}
 use Rattle.scope.proofs.walk.Statement.{statement}
 use Rattle.scope.proofs.walk.Tie as tie
-use Rattle.scope.proofs.walk.Reads as reads
-use Rattle.scope.proofs.walk.Lts as lts
-use Rattle.nodefile.proofs.nodes.Reads as nodes-reads
-use Rattle.note.proofs.note_lists.Reads as note-lists-reads
-use Rattle.scope.proofs.enter_module.Reads as enter-module-reads
 
 -- src/lib.rt:59:49
 slice-aggregate-note-lists : tie.Need-slice-aggregate-note-lists

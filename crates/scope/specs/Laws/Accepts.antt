@@ -1,20 +1,20 @@
 -- A file that judging accepts is ready: node by node what the walks need, and its lists.
-use Prim.Native.Nat.{ℕ, zero, suc, _+_, _*_, _<_, _≤_}
+use Prim.Native.Nat.{ℕ, zero, suc, _*_, _<_, _≤_}
 use mathlib.Core.Path.{_≡_, refl, sym, ap, _∙_, subst}
 use mathlib.Core.Logic.{inl, inr}
-use mathlib.Core.Bool.{Bool, true, false, cond, _&&_}
+use mathlib.Core.Bool.{true, false, cond}
 use mathlib.Core.List.{List, [], _∷_}
 use mathlib.Core.Option.{some}
 use native.Mathlib.Omega.{arith}
 use lib.ListN.{length, getElem?, length-drop}
 use Rattle.base.specs.UpTo.{upTo-at}
-use Rattle.lexical.specs.Lists.{none-some, eqb-self}
+use Rattle.lexical.specs.Lists.{none-some}
 use Rattle.lexical.specs.Places.{In, Distinct, in-left, in-right}
 use Rattle.lexical.specs.Tree.{Forest, nil, node, isFn, way, when, listed, nodesIn, scopesIn}
 use Rattle.lexical.specs.Table.{one, opt, many, row, within, headIn, dropOne, dropMany, isEmpty, matches, allowed, kinds}
 use Rattle.lexical.specs.Proof.Slots.{both-true}
 use Rattle.lexical.specs.Proof.Tabled.{in-range}
-use Rattle.nodefile.specs.Layout.{nodeCount, nameCount, entryCount, globalCount, nodesOf, entriesOf, globalsOf}
+use Rattle.nodefile.specs.Layout.{nameCount, entryCount, globalCount, nodesOf, entriesOf, globalsOf}
 use Rattle.nodefile.specs.Lists.{entryName, globalName}
 use Rattle.nodefile.specs.Node.{sizeOf}
 use Rattle.nodefile.specs.Reads.{Reads, reads-one}
@@ -24,8 +24,9 @@ use Rattle.store.specs.Valid.{Valid, Some, NameFirst}
 use Rattle.note.specs.Noted.{ListsOk}
 use Rattle.judge.specs.Cond.{Judged}
 use Rattle.judge.specs.Lists.{entryNames, globalNames}
-use Rattle.judge.specs.Accepted.{ListOk, NodeOk, Each, Accepted}
+use Rattle.judge.specs.Accepted.{NodeOk, Each, Accepted}
 use Rattle.judge.specs.Theorems.{accepted, accepted-tabled}
+use Rattle.scope.specs.Laws.Lists.{at-in}
 use Rattle.scope.specs.Ready.{Ready}
 
 -- ---- what the table says of children
@@ -99,11 +100,6 @@ valid-each names h (node at k v kids rest) e a b = (
 )
 
 -- ---- its lists
-
-at-in : (xs : List ℕ) (k x : ℕ) → getElem? xs k ≡ some x → In x xs
-at-in [] k x e = absurd (none-some refl e)
-at-in (y ∷ xs) zero x e = let z : y ≡ x = cc in inl (sym z)
-at-in (y ∷ xs) (suc k) x e = inr (at-in xs k x e)
 
 distinct-at : (xs : List ℕ) → Distinct xs → (j k x : ℕ) → j < k → getElem? xs j ≡ some x → getElem? xs k ≡ some x → ⊥
 distinct-at [] d j k x h a b = none-some refl a

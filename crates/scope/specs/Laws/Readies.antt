@@ -1,11 +1,11 @@
 -- What is known of the file that ready bytes stand for.
-use Prim.Native.Nat.{ℕ, _+_, _*_, _<_, _≤_}
-use mathlib.Core.Path.{_≡_, sym, _∙_}
+use Prim.Native.Nat.{ℕ, _*_, _≤_}
+use mathlib.Core.Path.{_≡_, _∙_}
 use mathlib.Core.List.{List}
 use native.Mathlib.Omega.{arith}
 use lib.ListN.{length}
 use Rattle.lexical.specs.Places.{Distinct}
-use Rattle.lexical.specs.Tree.{Forest, nodesIn, namesIn}
+use Rattle.lexical.specs.Tree.{Forest, nodesIn}
 use Rattle.lexical.specs.Table.{Headed}
 use Rattle.lexical.specs.Claims.{Scoped}
 use Rattle.lexical.specs.Third.{resolved}
@@ -14,8 +14,6 @@ use Rattle.lexical.specs.Theorems.{scoped}
 use Rattle.lexical.specs.Code.Capacity.{made-capacity, names-idents-nodes, errors-nodes}
 use Rattle.lexical.specs.Proof.Tabled.{tabled-headed}
 use Rattle.nodefile.specs.Layout.{nodeCount, nodesOf, nodes-length}
-use Rattle.nodefile.specs.Node.{sizeOf}
-use Rattle.nodefile.specs.Reads.{countOf}
 use Rattle.nodefile.specs.FileOf.{fileOf}
 use Rattle.nodefile.specs.FileLaws.{entries-count, tree-count}
 use Rattle.nodefile.specs.Listed.{nodes-count, nodes-distinct}

@@ -1,19 +1,18 @@
 -- The numbers that the walks keep are the packed records of document 01.
-use Prim.Native.Nat.{ℕ, _+_, _*_, _<_}
-use mathlib.Core.Path.{_≡_, refl, ap, _∙_}
+use Prim.Native.Nat.{ℕ, _<_}
+use mathlib.Core.Path.{_≡_, refl, ap}
 use mathlib.Core.Bool.{Bool, true, false}
 use mathlib.Core.Option.{some}
 use mathlib.Core.List.{List, [], _∷_}
 use native.Mathlib.Omega.{arith}
 use lib.ListN.{getD}
-use Rattle.bits.specs.Pack.{Narrow}
 use Rattle.bits.specs.PackLaws.{unpack-pack}
 use Rattle.lexical.specs.State.{Binding, Slot, Copy, St}
 use Rattle.lexical.specs.Records.{bit, bindingRow, entryRow, slotRow, copyRow, captured}
 use Rattle.store.specs.Words.{rowWord, bindingWord, bindWord, slotWord, errorWord, copyWord, pairWord}
 use Rattle.store.specs.Image.{Sound}
 use Rattle.store.specs.Rel.{caps}
-use Rattle.scope.specs.Packed.{fields, packed, bindingWidths, bindingOf, entryOf, entryFrom, pairOf, copyOf, answerOf}
+use Rattle.scope.specs.Packed.{fields, bindingWidths, bindingOf, entryOf, entryFrom, pairOf, copyOf, answerOf}
 
 pub binding-word : (st : St) (b : Binding) → bindWord (caps st) b ≡ bindingOf (bindingRow (st .log) b)
 unfolding bindWord bindingWord bindingRow
@@ -42,7 +41,7 @@ unfolding answerOf
 answer-word row = omega arith
 
 -- a module binding's entry, off its record
-bit-below : (x : Bool) → bit x < 2
+pub bit-below : (x : Bool) → bit x < 2
 unfolding bit
 bit-below true = omega arith
 bit-below false = omega arith

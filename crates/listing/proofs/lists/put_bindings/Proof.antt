@@ -3,7 +3,7 @@
 use Prim.Native.Nat.{ℕ, _-_, _≤_}
 use native.Mathlib.Omega.{arith}
 use lib.ListN.{length, getD}
-use Rattle.listing.specs.Lines.{bindingLine}
+use Rattle.lines.specs.Lines.{bindingLine}
 use Rattle.text.specs.Window.{Rows}
 use Rattle.text.specs.Laws.{rows-none, rows-more, rows-end}
 use Rattle.listing.proofs.lists.put_bindings.Statement.{statement}

@@ -1,12 +1,11 @@
 -- `listing::lists::put_copies` meets its contract: a line for each copy below `i`.
 -- Assumes nothing.
 use Prim.Native.Nat.{ℕ, _-_, _≤_}
-use mathlib.Core.Path.{ap}
 use native.Mathlib.Omega.{arith}
 use lib.ListN.{length, getD}
 use Rattle.text.specs.Window.{Rows}
-use Rattle.text.specs.Laws.{rows-none, rows-more, rows-end, puts-is}
-use Rattle.listing.specs.Lines.{copyLine}
+use Rattle.lines.specs.Lines.{copyLine}
+use Rattle.text.specs.Laws.{rows-none, rows-more, rows-end}
 use Rattle.listing.proofs.lists.put_copies.Statement.{statement}
 use Rattle.listing.proofs.lists.put_copies.Tie as tie
 
@@ -19,14 +18,11 @@ abbrev μ-loop : tie.MeasureT-loop
 loop-holds : tie.Need-loop-holds Inv-loop μ-loop
 loop-holds c = (omega arith, rows-none _ _ _)
 
-mul-wide : tie.Need-mul-wide Inv-loop μ-loop
-mul-wide c = omega arith
+mul-put-copy : tie.Need-mul-put-copy Inv-loop μ-loop
+mul-put-copy c = omega arith
 
-shared-slice-read-wide : tie.Need-shared-slice-read-wide Inv-loop μ-loop
-shared-slice-read-wide c = omega arith
-
-wide-requires : tie.Need-wide-requires Inv-loop μ-loop
-wide-requires c κs = tt
+shared-slice-read-put-copy : tie.Need-shared-slice-read-put-copy Inv-loop μ-loop
+shared-slice-read-put-copy c = omega arith
 
 put-copy-requires : tie.Need-put-copy-requires Inv-loop μ-loop
 put-copy-requires c κs = tt
@@ -38,7 +34,7 @@ loop-less : tie.Need-loop-less Inv-loop μ-loop
 loop-less c = omega arith
 
 loop-again : tie.Need-loop-again Inv-loop μ-loop
-loop-again c = (omega arith, rows-more (c .before .before .before .before .before .before .before .loop .inv .1) (puts-is (c .before .before .put-copy .ensures) (ap copyLine (c .before .before .before .wide .ensures))))
+loop-again c = (omega arith, rows-more (c .before .before .before .before .before .before .loop .inv .1) (c .before .before .put-copy .ensures))
 
 same-length : tie.Need-same-length Inv-loop μ-loop
 same-length c = c .before .loop .inv .1 .puts .long
@@ -53,9 +49,8 @@ put-copies-spec =
     Inv-loop
     μ-loop
     loop-holds
-    mul-wide
-    shared-slice-read-wide
-    wide-requires
+    mul-put-copy
+    shared-slice-read-put-copy
     put-copy-requires
     add-i
     loop-less

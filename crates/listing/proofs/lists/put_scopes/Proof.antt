@@ -4,10 +4,10 @@ use Prim.Native.Nat.{ℕ, suc, _-_, _≤_}
 use mathlib.Core.Path.{ap}
 use native.Mathlib.Omega.{arith}
 use lib.ListN.{getD}
-use Rattle.listing.specs.Text.{scopeCount}
+use Rattle.lines.specs.Lines.{scopeLine}
 use Rattle.text.specs.Window.{Rows}
 use Rattle.text.specs.Laws.{rows-none, rows-more, rows-end, puts-is}
-use Rattle.listing.specs.Lines.{scopeLine}
+use Rattle.listing.specs.Text.{scopeCount}
 use Rattle.listing.proofs.lists.put_scopes.Statement.{statement}
 use Rattle.listing.proofs.lists.put_scopes.Tie as tie
 
@@ -39,7 +39,13 @@ loop-less : tie.Need-loop-less Inv-loop μ-loop
 loop-less c = omega (arith, c .before .before .before .before .before .before .before .scope-count .ensures .is)
 
 loop-again : tie.Need-loop-again Inv-loop μ-loop
-loop-again c = (omega (arith, c .before .before .before .before .before .before .before .scope-count .ensures .is), rows-more (c .before .before .before .before .before .before .loop .inv .1) (puts-is (c .before .before .put-scope .ensures) (ap (scopeLine (c .before .before .before .before .before .before .before .before .before .before .before .before .args .file .now) (c .before .before .before .before .before .before .before .before .before .before .before .before .args .slots .now) (c .before .before .before .before .before .before .loop .s)) (c .before .before .before .at .ensures))))
+loop-again c =
+    let p5 = c .before .before in
+    let p4 = p5 .before in
+    let p3 = p4 .before .before .before in
+    let p2 = p3 .before in
+    let p1 = p2 .before .before .before .before .before in
+    (omega (arith, p2 .scope-count .ensures .is), rows-more (p3 .loop .inv .1) (puts-is (p5 .put-scope .ensures) (ap (scopeLine (p1 .args .file .now) (p1 .args .slots .now) (p3 .loop .s)) (p4 .at .ensures))))
 
 same-length : tie.Need-same-length Inv-loop μ-loop
 same-length c = c .before .loop .inv .1 .puts .long

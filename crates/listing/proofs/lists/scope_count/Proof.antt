@@ -39,11 +39,15 @@ loop-less : tie.Need-loop-less Inv-loop μ-loop
 loop-less c = omega (arith, c .before .before .before .before .before .node-count .ensures .is)
 
 loop-again : tie.Need-loop-again Inv-loop μ-loop
-loop-again c = (
-  omega (arith, c .before .before .before .before .before .node-count .ensures .is),
-  let e = ap isScope (sym (c .before .before .kind .ensures .is)) ∙ sym (c .before .is-scope .ensures) in
-      ⊎-elim (λ w. rw (w .1) (counted-one (c .before .before .before .before .loop .inv .1) (e ∙ w .0 .taken))) (λ w. rw (w .1) (counted-not (c .before .before .before .before .loop .inv .1) (e ∙ w .0 .left))) (c .if1 .came),
-)
+loop-again c =
+    let p4 = c .before in
+    let p3 = p4 .before in
+    let p2 = p3 .before .before in
+    let p1 = p2 .before in (
+      omega (arith, p1 .node-count .ensures .is),
+      let e = ap isScope (sym (p3 .kind .ensures .is)) ∙ sym (p4 .is-scope .ensures) in
+          ⊎-elim (λ w. rw (w .1) (counted-one (p2 .loop .inv .1) (e ∙ w .0 .taken))) (λ w. rw (w .1) (counted-not (p2 .loop .inv .1) (e ∙ w .0 .left))) (c .if1 .came),
+    )
 
 returns : tie.Need-returns Inv-loop μ-loop
 returns c = record { is = counted-end (c .before .loop .inv .1) (c .before .loop .inv .0) (omega (arith, c .before .before .node-count .ensures .is)); below = omega (arith, c .before .loop .inv .1 .few, c .before .before .node-count .ensures .below, c .before .before .node-count .ensures .is) }

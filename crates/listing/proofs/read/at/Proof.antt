@@ -6,20 +6,17 @@ use lib.ListN.{List·getD-eq-default}
 use Rattle.listing.proofs.read.at.Statement.{statement}
 use Rattle.listing.proofs.read.at.Tie as tie
 
-mul-wide : tie.Need-mul-wide
-mul-wide c = search needs
+mul-result : tie.Need-mul-result
+mul-result c = search needs
 
-shared-slice-read-wide : tie.Need-shared-slice-read-wide
-shared-slice-read-wide c = search needs
-
-wide-requires : tie.Need-wide-requires
-wide-requires c κs = tt
+shared-slice-read-result : tie.Need-shared-slice-read-result
+shared-slice-read-result c = search needs
 
 returns : tie.Need-returns
 returns c = search needs
 
 returns-2 : tie.Need-returns-2
-returns-2 c = sym (List·getD-eq-default (c .before .before .args .list .now) 0 (c .if1 .left))
+returns-2 c = sym (List·getD-eq-default (c .before .args .list .now) 0 (c .if1 .left))
 
 pub at-spec : {M : Type 1} → statement M
-at-spec = tie.close (tie.spec mul-wide shared-slice-read-wide wide-requires returns returns-2)
+at-spec = tie.close (tie.spec mul-result shared-slice-read-result returns returns-2)

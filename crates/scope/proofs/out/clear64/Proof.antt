@@ -7,8 +7,6 @@ use lib.ListN.{length, length-set}
 use Rattle.scope.specs.Filled.{Filled, filled-none, filled-more, filled-all}
 use Rattle.scope.proofs.out.clear64.Statement.{statement}
 use Rattle.scope.proofs.out.clear64.Tie as tie
-use Rattle.scope.proofs.out.clear64.Reads as reads
-use Rattle.scope.proofs.out.clear64.Lts as lts
 
 abbrev Inv-loop : tie.InvT-loop
 Inv-loop to₀ i₀ to i = (i ≤ length to) × Filled (λ _. 0) i to₀ to

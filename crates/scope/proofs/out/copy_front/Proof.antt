@@ -3,7 +3,7 @@
 use Prim.Native.Nat.{ℕ, _+_, _-_, _≤_}
 use mathlib.Core.Path.{refl}
 use native.Mathlib.Omega.{arith}
-use lib.ListN.{length, getD}
+use lib.ListN.{getD}
 use Rattle.scope.specs.Filled.{Filled, filled-none, filled-more, filled-end}
 use Rattle.scope.proofs.out.copy_front.Statement.{statement}
 use Rattle.scope.proofs.out.copy_front.Tie as tie

@@ -1,9 +1,8 @@
 -- `scope::out::put_entries` meets its contract: the elements before `i` are filled.
 -- Assumes nothing.
-use Prim.Native.Nat.{ℕ, _+_, _-_, _≤_}
-use mathlib.Core.Path.{refl}
+use Prim.Native.Nat.{ℕ, _-_, _≤_}
 use native.Mathlib.Omega.{arith}
-use lib.ListN.{length, getD}
+use lib.ListN.{getD}
 use Rattle.scope.specs.Filled.{Filled, filled-none, filled-more, filled-end}
 use Rattle.scope.specs.Packed.{entryFrom}
 use Rattle.scope.proofs.out.put_entries.Statement.{statement}
