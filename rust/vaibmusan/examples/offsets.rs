@@ -1,40 +1,44 @@
-//! The road sensor's script samples/offsets.star as a tree: which `offset` does the lambda take?
+//! The road sensor's script samples/offsets.star as a tree: which `offset` does each reader take?
 //!
 //!     cargo run --offline --example offsets
 use std::error::Error;
 use vaibmusan::{resolve, Answers, Expr, Resolved, Script, Slot, Stmt, Target};
 
-/// `offset = 0`, and the two functions.
+/// offset = 0, and the three functions
 pub fn script() -> Script {
-    let root = Stmt::block([Stmt::assign("offset", Expr::Other(vec![])), corrections(), ordered()]);
-    Script::new(root).with_globals(["dict", "sorted"])
+    let root = Stmt::block([Stmt::assign("offset", Expr::Other(vec![])), own(), corrected(), in_order()]);
+    Script::new(root).with_globals(["sorted"])
 }
 
-fn call<E: Into<Expr>>(function: impl Into<Expr>, arguments: impl IntoIterator<Item = E>) -> Expr {
-    Expr::Other([function.into()].into_iter().chain(arguments.into_iter().map(Into::into)).collect())
+/// [(time, car) for stamp, car in log]
+fn events(time: Expr) -> Expr {
+    Expr::compr(Expr::other([time, "car".into()]), Target::tuple(["stamp", "car"]), "log")
 }
 
-/// def corrections(neighbours, clock): ..
-fn corrections() -> Stmt {
-    let lambda = Expr::lambda(["stamp"], Expr::other(["stamp", "offset"]));
+/// def own(log): return [(stamp + offset, car) for stamp, car in log]
+fn own() -> Stmt {
+    Stmt::def("own", ["log"], Stmt::plain(events(Expr::other(["stamp", "offset"]))))
+}
+
+/// def corrected(logs, clock): ..
+fn corrected() -> Stmt {
     let in_loop = Stmt::block([
-        // offset = clock(name) - drift
-        Stmt::assign("offset", Expr::other([call("clock", ["name"]), "drift".into()])),
-        // fixed.append((name, lambda stamp: stamp + offset))
-        Stmt::plain(call(Expr::other(["fixed"]), [Expr::other(["name".into(), lambda])])),
+        // offset = clock(neighbour)
+        Stmt::assign("offset", Expr::other(["clock", "neighbour"])),
+        // correct = lambda stamp: stamp + offset
+        Stmt::assign("correct", Expr::lambda(["stamp"], Expr::other(["stamp", "offset"]))),
+        // events += [(correct(stamp), car) for stamp, car in log]
+        Stmt::Modify("events".into(), events(Expr::other(["correct", "stamp"]))),
     ]);
     let body =
-        Stmt::block([Stmt::assign("fixed", Expr::Other(vec![])), Stmt::for_in(Target::tuple(["name", "drift"]), "neighbours", in_loop), Stmt::plain("fixed")]);
-    Stmt::def("corrections", ["neighbours", "clock"], body)
+        Stmt::block([Stmt::assign("events", Expr::Other(vec![])), Stmt::for_in(Target::tuple(["neighbour", "log"]), "logs", in_loop), Stmt::plain("events")]);
+    Stmt::def("corrected", ["logs", "clock"], body)
 }
 
-/// def ordered(events, neighbours, clock): ..
-fn ordered() -> Stmt {
-    // (fix[name](stamp), kind) for name, stamp, kind in events
-    let element = Expr::other([call(Expr::other(["fix", "name"]), ["stamp"]), "kind".into()]);
-    let events = Expr::compr(element, Target::tuple(["name", "stamp", "kind"]), "events");
-    let body = Stmt::block([Stmt::assign("fix", call("dict", [call("corrections", ["neighbours", "clock"])])), Stmt::plain(call("sorted", [events]))]);
-    Stmt::def("ordered", ["events", "neighbours", "clock"], body)
+/// def in_order(log, logs, clock): return sorted(own(log) + corrected(logs, clock))
+fn in_order() -> Stmt {
+    let sum = Expr::other([Expr::other(["own", "log"]), Expr::other(["corrected", "logs", "clock"])]);
+    Stmt::def("in_order", ["log", "logs", "clock"], Stmt::plain(Expr::other(["sorted".into(), sum])))
 }
 
 fn main() -> Result<(), Box<dyn Error>> {
@@ -43,13 +47,15 @@ fn main() -> Result<(), Box<dyn Error>> {
     resolve(&file, &mut answers)?;
     print!("{}", answers.listing());
     for ident in answers.idents().filter(|i| i.name == "offset") {
-        let Resolved::Slot(Slot::Local(slot), id) = ident.resolved else { return Err("the lambda takes another offset".into()) };
-        let home = answers.home(&ident).ok_or("a local has a home")?;
-        let source = answers.binding(id).and_then(|b| b.source).ok_or("it is declared in the script")?;
-        println!(
-            "node {}: offset is slot {} here, filled from slot {} of scope {}: the variable of Name node {source}",
-            ident.node, slot.0, home.slot.0, home.scope.0
-        );
+        match (ident.resolved, answers.home(&ident)) {
+            (Resolved::Slot(Slot::Module(slot), _), _) => println!("node {}: offset is the module's, slot {}", ident.node, slot.0),
+            (Resolved::Slot(Slot::Local(slot), id), Some(home)) => {
+                let source = answers.binding(id).and_then(|b| b.source).ok_or("it is declared in the script")?;
+                let (from, scope) = (home.slot.0, home.scope.0);
+                println!("node {}: offset is slot {} here, filled from slot {from} of scope {scope}: the variable of Name node {source}", ident.node, slot.0);
+            }
+            _ => return Err("an offset that is no variable".into()),
+        }
     }
     Ok(())
 }
