@@ -14,6 +14,7 @@ ghost use Rattle.scope.specs.Copied.{PreCopy, Copied};
 use store::State;
 
 // Document 01's number, and the counts.
+#[repr(C)]
 pub struct Answer {
     pub number: u64,
     pub bindings: usize,

@@ -1,0 +1,114 @@
+/* Vaibmusan: which variable each name of a Starlark script means, and in which slot it lives.
+ *
+ * The five functions are proved: each does what is said here for any bytes, and docs/BELIEVE.md names the
+ * definitions behind the words. docs/01-scope.md ("document 01") says what a node file and an answer are.
+ *
+ * What a caller owes, as no proof sees it:
+ *   - a pointer leads to so many elements as the length beside it says, and is aligned for its type; only beside
+ *     length 0 may it be null;
+ *   - what is written (pointers without const) overlaps nothing else that is handed over;
+ *   - there are 512 KB of stack left (seen: 180 KB in vaib_resolve, 260 KB in vaib_listing).
+ * The functions keep nothing between calls, take no memory from the heap, and may run in many threads at once.
+ *
+ * Link with target/staticlib/libvaibmusan.a (`rt staticlib vaibmusan` makes it; x86-64 Linux).
+ * vaibmusan_records.h reads the packed records of an answer, vaibmusan_file.h writes and reads node files: plain C, and not proved. */
+#ifndef VAIBMUSAN_H
+#define VAIBMUSAN_H
+
+#include <stddef.h>
+#include <stdint.h>
+
+#ifdef __cplusplus
+extern "C" {
+#endif
+
+/* The numbers given back: 0, or the smallest number of document 01's table whose condition holds. */
+enum vaib_number {
+    VAIB_ACCEPTED = 0,
+    VAIB_SHORT_BUFFER = 1,  /* an answer buffer is shorter than its full length */
+    VAIB_BAD_HEADER = 2,    /* fewer than 12 bytes, version not 1, or zero bits set in the header */
+    VAIB_BAD_COUNTS = 3,    /* nodes 0 or above 2,048; names above 1,024; module entries or globals above 256; pool above 16,384 */
+    VAIB_BAD_LENGTH = 4,    /* length is not exactly what the header says */
+    VAIB_BAD_NAMES = 5,     /* a name of length 0, past the pool, or spelled as an earlier one */
+    VAIB_BAD_LISTS = 6,     /* a module entry or global with no such name, or a name twice in one list */
+    VAIB_BAD_NODES = 7,     /* kind above 18, zero bits set, a wrong size, no such name, or a value where none belongs */
+    VAIB_BAD_CHILDREN = 8,  /* the root no statement, or children other than the table allows */
+    VAIB_TOO_DEEP = 9,      /* depth 65 or more */
+    VAIB_BAD_SCOPES = 10,   /* scope numbers are not 1..S each once, or S above 255 */
+    VAIB_BAD_PARAMS = 11,   /* two Params of one Def or Lambda with one name */
+    VAIB_TOO_MANY_SLOTS = 12 /* all scopes together would need more than 4,096 slots */
+};
+
+/* Full lengths of the answer buffers, in elements. */
+enum vaib_full_length {
+    VAIB_NODES = 2048,
+    VAIB_BINDINGS = 2304,
+    VAIB_MODULE = 2304,
+    VAIB_SCOPES = 256,
+    VAIB_SLOTS = 4096,
+    VAIB_COPIES = 4096,
+    VAIB_ERRORS = 2048
+};
+
+/* No accepted file is longer; more bytes than that get the number that their first 37,389 get. */
+enum { VAIB_LONGEST_FILE = 37388 };
+
+/* A number, and how many records each list of the answer has; zeros beside a number that is not 0. */
+struct vaib_answer {
+    uint64_t number;
+    size_t bindings, module, slots, copies, errors;
+};
+
+/* Bytes of a file: from offset on, so many. */
+struct vaib_stretch {
+    size_t offset, length;
+};
+
+/* A local slot of a scope. */
+struct vaib_home {
+    size_t scope, slot;
+};
+
+/* The smallest of the numbers 2 to 11 whose condition holds for these bytes; 0 if none does. */
+uint64_t vaib_judge(const uint8_t *file, size_t length);
+
+/* Where the spelling of a name stands: offset + length lie inside the file, and that stretch is the spelling, at the place
+ * in the pool that the name's record says. Offset 0 and length 0 if judging refuses the file or it has no such name. */
+struct vaib_stretch vaib_spelling(const uint8_t *file, size_t length, size_t name);
+
+/* Which variable each name of a file means. The buffers have any lengths and any contents; the answer's number is 0 or the
+ * smallest of 1 to 12 whose condition holds.
+ * If it is 0, the counts are the lengths of document 01's lists, and each buffer holds its records from the front and then zeros,
+ * to its last element: a record for each node, the bindings, the module entries afterwards, a record for each scope from 0 to S,
+ * the slots, the copies and the errors in order of making.
+ * If it is not 0, the counts are 0 and every element of every buffer is zero. */
+struct vaib_answer vaib_resolve(const uint8_t *file, size_t length,
+                                uint32_t *nodes, size_t nodes_length,
+                                uint64_t *bindings, size_t bindings_length,
+                                uint32_t *module, size_t module_length,
+                                uint32_t *scopes, size_t scopes_length,
+                                uint32_t *slots, size_t slots_length,
+                                uint32_t *copies, size_t copies_length,
+                                uint32_t *errors, size_t errors_length);
+
+/* Where a local slot has its value from. around: the scopes around a place, outermost first (vaib_scopes_around); slot: a slot of
+ * the last of them. As long as the first copy record for that scope and slot says so, the value comes from its parent slot in the
+ * scope before; the answer is the scope and slot where that ends (scope 0 if no scope is left).
+ * For an answer of vaib_resolve and a local Ident, that is the own slot of the Ident's binding. */
+struct vaib_home vaib_follow(const uint32_t *copies, size_t copies_length,
+                             const uint32_t *around, size_t around_length,
+                             size_t slot);
+
+/* The listing of a file (document 01, "One listing in full"; `answer N` and a line feed for a refused file), seen through a window:
+ * text receives the listing's bytes from byte `from` on, as many as it has room for, and zeros behind the listing's end. The result
+ * is the number of the listing's bytes in it; less than text_length says that the listing has ended. */
+size_t vaib_listing(const uint8_t *file, size_t length, size_t from, uint8_t *text, size_t text_length);
+
+#ifdef __cplusplus
+}
+#endif
+
+/* Readers of the packed records, in plain C. */
+#include "vaibmusan_records.h"
+
+#endif

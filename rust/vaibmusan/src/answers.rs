@@ -1,0 +1,121 @@
+//! What resolving answers.
+use crate::ffi::{self, Buffers};
+use crate::file::File;
+use crate::ids::{LocalSlotId, Name, ScopeId};
+use crate::records::{Home, NodeAnswer, Resolved, Slot};
+use crate::refusal::Refusal;
+
+/// How many records each list of an answer has.
+#[derive(Clone, Copy, Debug, Default, PartialEq, Eq)]
+pub struct Counts {
+    /// Variables.
+    pub bindings: usize,
+    /// Entries of the module list afterwards.
+    pub module: usize,
+    /// Slots of all scopes.
+    pub slots: usize,
+    /// Copies.
+    pub copies: usize,
+    /// Idents without an answer.
+    pub errors: usize,
+}
+
+/// The buffers of an answer as they are: packed records, then zeros.
+#[derive(Clone, Copy, Debug)]
+#[allow(missing_docs)]
+pub struct Raw<'a> {
+    pub nodes: &'a [u32],
+    pub bindings: &'a [u64],
+    pub module: &'a [u32],
+    pub scopes: &'a [u32],
+    pub slots: &'a [u32],
+    pub copies: &'a [u32],
+    pub errors: &'a [u32],
+}
+
+/// Room for the answer about one file, to be used again for the next: [`resolve`] fills it.
+/// It keeps a copy of the file that it tells of, so that names can be read; after a refusal it is empty.
+#[derive(Clone)]
+pub struct Answers {
+    pub(crate) buffers: Box<Buffers>,
+    pub(crate) counts: Counts,
+    file: Vec<u8>,
+}
+
+/// Which variable each name of a file means, and in which slot it lives.
+///
+/// ```
+/// use vaibmusan::{resolve, Answers, Refusal};
+/// let mut answers = Answers::new();
+/// assert_eq!(resolve(b"too short", &mut answers), Err(Refusal::Header));
+/// assert_eq!(answers.bindings().count(), 0);
+/// ```
+pub fn resolve(file: &[u8], answers: &mut Answers) -> Result<Counts, Refusal> {
+    let a = ffi::resolve(file, &mut answers.buffers);
+    answers.counts = Counts { bindings: a.bindings, module: a.module, slots: a.slots, copies: a.copies, errors: a.errors };
+    answers.file.clear();
+    Refusal::check(a.number)?;
+    answers.file.extend_from_slice(file);
+    Ok(answers.counts)
+}
+
+impl Default for Answers {
+    fn default() -> Self {
+        Self::new()
+    }
+}
+
+impl Answers {
+    /// Room, with nothing in it.
+    pub fn new() -> Self {
+        Answers { buffers: Buffers::new(), counts: Counts::default(), file: Vec::new() }
+    }
+
+    /// How many records each list has.
+    pub fn counts(&self) -> Counts {
+        self.counts
+    }
+
+    /// The packed records.
+    pub fn raw(&self) -> Raw<'_> {
+        let b = &self.buffers;
+        Raw { nodes: &b.nodes, bindings: &b.bindings, module: &b.module, scopes: &b.scopes, slots: &b.slots, copies: &b.copies, errors: &b.errors }
+    }
+
+    pub(crate) fn file(&self) -> File<'_> {
+        File(&self.file)
+    }
+
+    pub(crate) fn name(&self, number: u32) -> Name<'_> {
+        self.file().name(number as usize)
+    }
+
+    /// The scopes around a node, outermost first; none where there is no such node.
+    pub fn scopes_around(&self, node: usize) -> Vec<ScopeId> {
+        if node < self.file().node_count() {
+            self.file().scopes_around(node)
+        } else {
+            Vec::new()
+        }
+    }
+
+    /// Where a slot of the last of these scopes, given outermost first, has its value from: its copies are followed outward.
+    pub fn follow(&self, around: &[ScopeId], slot: LocalSlotId) -> Home {
+        let around: Vec<u32> = around.iter().map(|s| s.0 as u32).collect();
+        let (scope, slot) = ffi::follow(&self.buffers.copies[..self.counts.copies], &around, slot.0 as usize);
+        Home { scope: ScopeId(scope), slot: LocalSlotId(slot as u32) }
+    }
+
+    /// The variable's own place, of an Ident that means a local.
+    pub fn home(&self, ident: &NodeAnswer<'_>) -> Option<Home> {
+        match ident.resolved {
+            Resolved::Slot(Slot::Local(slot), _) => Some(self.follow(&self.scopes_around(ident.node), slot)),
+            _ => None,
+        }
+    }
+
+    /// The listing of the file.
+    pub fn listing(&self) -> crate::Listing<'_> {
+        crate::listing(&self.file)
+    }
+}

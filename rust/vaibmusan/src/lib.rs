@@ -1,0 +1,82 @@
+//! Vaibmusan answers, for a Starlark script: which variable does each name mean, and in which slot does it live?
+//!
+//! The answers come from a static library whose functions are proved: [`judge`], [`spelling`], [`resolve`], [`Answers::follow`] and
+//! [`listing`] do what document 01 (docs/01-scope.md) says, for any bytes. What this crate adds is not proved, only tested: it lends
+//! the buffers, reads the packed records into named fields, and writes node files from trees ([`Script`]).
+//!
+//! ```
+//! use vaibmusan::{resolve, Answers, Expr, Resolved, Script, Slot, Stmt};
+//!
+//! // offset = 0
+//! // def corrections(drift):
+//! //     offset = drift
+//! //     return lambda stamp: stamp + offset
+//! let body = Stmt::block([
+//!     Stmt::assign("offset", "drift"),
+//!     Stmt::plain(Expr::lambda(["stamp"], Expr::other(["stamp", "offset"]))),
+//! ]);
+//! let script = Script::new(Stmt::block([
+//!     Stmt::assign("offset", Expr::Other(vec![])),
+//!     Stmt::def("corrections", ["drift"], body),
+//! ]));
+//! let file = script.to_bytes()?;
+//!
+//! let mut answers = Answers::new();
+//! let counts = resolve(&file, &mut answers)?;
+//! assert_eq!((counts.bindings, counts.errors), (5, 0));
+//!
+//! // the lambda's `offset` is the function's own, not the module's
+//! let offset = answers.idents().find(|i| i.name == "offset").unwrap();
+//! let Resolved::Slot(Slot::Local(_), id) = offset.resolved else { panic!("no local") };
+//! let binding = answers.binding(id).unwrap();
+//! let home = answers.home(&offset).unwrap();
+//! assert_eq!((home.scope.0, Slot::Local(home.slot)), (1, binding.slot));
+//! assert!(binding.captured);
+//! # Ok::<(), Box<dyn std::error::Error>>(())
+//! ```
+
+mod answers;
+mod ffi;
+mod file;
+mod ids;
+mod listing;
+mod lists;
+mod nodes;
+mod records;
+mod refusal;
+mod tree;
+mod write;
+
+pub use answers::{resolve, Answers, Counts, Raw};
+pub use ids::{BindingId, LocalSlotId, ModuleSlotId, Name, ScopeId};
+pub use listing::{listing, Listing};
+pub use records::{
+    AssignCount, Binding, CopySlotFromParent, ErrorKind, Home, ModuleEntry, NameError, NamedSlot, NodeAnswer, Resolved, Scope, Slot, Visibility,
+};
+pub use refusal::Refusal;
+pub use tree::{Clause, Expr, Id, Param, Stmt, Target};
+pub use write::{Entry, Script, TooLarge};
+
+/// Whether a file is accepted; of several faults the one with the smallest number. Number 12 is for [`resolve`] to tell.
+///
+/// ```
+/// use vaibmusan::{judge, Refusal};
+/// assert_eq!(judge(&[]), Err(Refusal::Header));
+/// assert_eq!(Refusal::Header.number(), 2);
+/// ```
+pub fn judge(file: &[u8]) -> Result<(), Refusal> {
+    Refusal::check(ffi::judge(file))
+}
+
+/// The spelling of a name number, as a part of the file; empty if judging refuses the file or there is no such name.
+///
+/// ```
+/// use vaibmusan::{spelling, Script, Stmt};
+/// let file = Script::new(Stmt::plain("clock")).to_bytes()?;
+/// assert_eq!(spelling(&file, 0), b"clock");
+/// assert_eq!(spelling(&file, 1), b"");
+/// # Ok::<(), vaibmusan::TooLarge>(())
+/// ```
+pub fn spelling(file: &[u8], name: usize) -> &[u8] {
+    ffi::spelling(file, name)
+}

@@ -1,0 +1,9 @@
+//! The crate over the proved library, on the repository's fixed lists of files.
+mod answers;
+mod files;
+mod listing;
+mod trees;
+
+#[allow(dead_code)]
+#[path = "../../examples/offsets.rs"]
+mod offsets;
