@@ -7,7 +7,7 @@
 
 #include "vaibmusan.h"
 
-/* Buffers of their full lengths, about 83 KB. */
+/* Buffers of their full lengths: 77,824 bytes. */
 struct vaib_buffers {
     uint64_t bindings[VAIB_BINDINGS];
     uint32_t nodes[VAIB_NODES];

@@ -1,5 +1,5 @@
 #!/usr/bin/env python3
-"""Makes what the program scope_edges is run on, and what it must write: crates/scope_edges/stdin and stdout.
+"""Makes files.bin, what lent.c resolves, and answers.txt, what it must write (./run compares).
 
 Each file is resolved 15 times, into buffers of their full lengths with each of the seven in turn
 one element short, then with each in turn 16 longer, then with none. The mirror says which elements
@@ -19,8 +19,6 @@ import mirror  # noqa: E402
 import second_judge  # noqa: E402
 import stream  # noqa: E402
 from examples import EXAMPLES  # noqa: E402
-
-CRATE = HERE.parent.parent / "crates/scope_edges"
 
 
 def filled(rows):
@@ -64,9 +62,9 @@ def files():
 
 def main():
     made = list(files())
-    with open(CRATE / "stdin", "wb") as target:
+    with open(HERE / "files.bin", "wb") as target:
         stream.write(target, made)
-    with open(CRATE / "stdout", "w") as target:
+    with open(HERE / "answers.txt", "w") as target:
         for data in made:
             target.write(refusal(1) * 7 + expected(data) * 8)
     print(f"{len(made)} files")

@@ -7,9 +7,6 @@ const WINDOW: usize = 65536;
 fn show(file: &[u8], from: usize) -> bool {
     let mut window = io::large_buffer();
     let n = listing::listing(file, from, &mut window);
-    if n > WINDOW {
-        return false;
-    }
     let written = io::write_all(STDOUT_FILENO, &window[..n]);
     written && n == WINDOW
 }

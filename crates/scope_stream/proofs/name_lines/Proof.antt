@@ -14,35 +14,27 @@ Inv-loop list records i₀ i = i ≤ length records
 abbrev μ-loop : tie.MeasureT-loop
 μ-loop list records i₀ i = length records - i
 
--- src/main.rt:42:5
 loop-holds : tie.Need-loop-holds Inv-loop μ-loop
 loop-holds c = omega arith
 
--- src/main.rt:43:28
 mul-node-line : tie.Need-mul-node-line Inv-loop μ-loop
 mul-node-line c = omega arith
 
--- src/main.rt:43:28
 shared-slice-read-node-line : tie.Need-shared-slice-read-node-line Inv-loop μ-loop
 shared-slice-read-node-line c = omega arith
 
--- src/main.rt:43:9
 node-line-requires : tie.Need-node-line-requires Inv-loop μ-loop
 node-line-requires c κs = tt
 
--- src/main.rt:44:9
 add-i : tie.Need-add-i Inv-loop μ-loop
 add-i c = omega arith
 
--- src/main.rt:42:5
 loop-less : tie.Need-loop-less Inv-loop μ-loop
 loop-less c = omega arith
 
--- src/main.rt:42:5
 loop-again : tie.Need-loop-again Inv-loop μ-loop
 loop-again c = omega arith
 
--- src/main.rt:40:1
 returns : tie.Need-returns Inv-loop μ-loop
 returns c = tt
 

@@ -14,39 +14,30 @@ Inv-loop file count records i₀ i = i ≤ length records
 abbrev μ-loop : tie.MeasureT-loop
 μ-loop file count records i₀ i = length records - i
 
--- src/main.rt:62:5
 loop-holds : tie.Need-loop-holds Inv-loop μ-loop
 loop-holds c = omega arith
 
--- src/main.rt:64:13
 returns : tie.Need-returns Inv-loop μ-loop
 returns c = tt
 
--- src/main.rt:66:25
 mul-slot-line : tie.Need-mul-slot-line Inv-loop μ-loop
 mul-slot-line c = omega arith
 
--- src/main.rt:66:25
 shared-slice-read-slot-line : tie.Need-shared-slice-read-slot-line Inv-loop μ-loop
 shared-slice-read-slot-line c = omega arith
 
--- src/main.rt:66:9
 slot-line-requires : tie.Need-slot-line-requires Inv-loop μ-loop
 slot-line-requires c κs = tt
 
--- src/main.rt:67:9
 add-i : tie.Need-add-i Inv-loop μ-loop
 add-i c = omega arith
 
--- src/main.rt:62:5
 loop-less : tie.Need-loop-less Inv-loop μ-loop
 loop-less c = omega arith
 
--- src/main.rt:62:5
 loop-again : tie.Need-loop-again Inv-loop μ-loop
 loop-again c = omega arith
 
--- src/main.rt:60:1
 returns-2 : tie.Need-returns-2 Inv-loop μ-loop
 returns-2 c = tt
 
