@@ -21,7 +21,7 @@ use Rattle.scope.specs.Laws.Accepts.{judged-ready, judged-tree}
 
 -- ---- buffers that are cleared
 
-refused-with : {b b₁ : Buffers} {a : Answer} {n : ℕ} → Zeroed b b₁ → a ≡ refusal n → Refused b a b₁
+pub refused-with : {b b₁ : Buffers} {a : Answer} {n : ℕ} → Zeroed b b₁ → a ≡ refusal n → Refused b a b₁
 refused-with z q = record {
   bindings = ap (λ (x : Answer). x .bindings) q;
   module-entries = ap (λ (x : Answer). x .«module») q;

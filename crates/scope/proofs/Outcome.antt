@@ -30,6 +30,7 @@ use Rattle.scope.specs.Answer.{many-slots, refusal, Given}
 use Rattle.scope.specs.Accepted.{PreAccepted, Accepting, many, few}
 use Rattle.scope.specs.Laws.Front.{get-past}
 use Rattle.scope.specs.Laws.Readies.{ready-made, ready-errors}
+use Rattle.scope.proofs.Numbers.{refused-with}
 use Rattle.scope.proofs.Records as fronts
 
 -- ---- lists of zeros
@@ -84,22 +85,15 @@ module _ {bs : List ℕ} {b : Buffers} (p : PreAccepted bs b) where
     -- a list was full
     pub too-many : r .st .full ≡ true → {bindings′ : List ℕ} → bindings′ ≡ replicate (length back) 0 → {a : Answer} → a ≡ refusal 12
         → Accepting bs b a (buffers (b .nodes) bindings′ (b .entries) (b .scopes) (b .slots) (b .copies) (b .errors))
-    too-many f e q = many (ap (λ (x : Answer). x .number) q) (many-slots (p .root) (p .ready .reads) (over-slots (p .ready) (end .over f))) (record {
-      bindings = ap (λ (x : Answer). x .bindings) q;
-      module-entries = ap (λ (x : Answer). x .«module») q;
-      slots = ap (λ (x : Answer). x .slots) q;
-      copies = ap (λ (x : Answer). x .copies) q;
-      errors = ap (λ (x : Answer). x .errors) q;
-      zeroed = record {
-        nodes = blank-is (b .nodes) (p .blank .nodes);
-        bindings = e ∙ ap (λ (n : ℕ). replicate n 0) back-length;
-        entries = blank-is (b .entries) (p .blank .entries);
-        scopes = blank-is (b .scopes) (p .blank .scopes);
-        slots = blank-is (b .slots) (p .blank .slots);
-        copies = blank-is (b .copies) (p .blank .copies);
-        errors = blank-is (b .errors) (p .blank .errors);
-      };
-    })
+    too-many f e q = many (ap (λ (x : Answer). x .number) q) (many-slots (p .root) (p .ready .reads) (over-slots (p .ready) (end .over f))) (refused-with (record {
+      nodes = blank-is (b .nodes) (p .blank .nodes);
+      bindings = e ∙ ap (λ (n : ℕ). replicate n 0) back-length;
+      entries = blank-is (b .entries) (p .blank .entries);
+      scopes = blank-is (b .scopes) (p .blank .scopes);
+      slots = blank-is (b .slots) (p .blank .slots);
+      copies = blank-is (b .copies) (p .blank .copies);
+      errors = blank-is (b .errors) (p .blank .errors);
+    }) q)
 
     -- none was
     module _ (f : r .st .full ≡ false) {n : ℕ} (c : n ≡ nodeCount bs) where
