@@ -1,5 +1,6 @@
 pub mod Says
-pub mod Smallest
 pub mod Parts
 pub mod Table
+pub mod First
+pub mod Smallest
 pub mod UpTo

@@ -1,28 +1,26 @@
 -- How judging comes to its answer: what each test said of a part, said of the file.
 use Prim.Native.Nat.{ℕ, _%_, _≤_, _<_}
-use mathlib.Core.Path.{_≡_, ap, _∙_, subst}
+use mathlib.Core.Path.{_≡_, sym, ap, _∙_, subst}
 use mathlib.Core.Bool.{Bool, true, false}
 use mathlib.Core.List.{List}
 use native.Mathlib.Omega.{arith}
 use lib.ListN.{length, replicate, length-replicate}
 use Rattle.base.specs.Says.{Says}
-use Rattle.base.specs.Smallest.{Clear}
 use Rattle.lexical.specs.Tree.{Forest}
 use Rattle.nodefile.specs.Layout.{nameCount, nodesOf, nodes-length}
 use Rattle.nodefile.specs.Reads.{Reads, reads-one}
 use Rattle.nodefile.specs.Trees.{tree}
-use Rattle.judge.specs.Header.{HeaderOk, header-ok}
+use Rattle.judge.specs.Header.{HeaderOk}
 use Rattle.judge.specs.Lists.{entryNames, globalNames, BadList, BadLists, bad-entry, bad-global}
-use Rattle.judge.specs.Nodes.{Sound}
+use Rattle.judge.specs.Nodes.{Sound, sound}
 use Rattle.judge.specs.Depth.{TooDeep, too-deep}
 use Rattle.nodefile.specs.Height.{height}
-use Rattle.judge.specs.Cond.{Cond}
 use Rattle.judge.specs.Inside.Held.{Held}
+use Rattle.judge.specs.Inside.Shaped.{Shaped}
 use Rattle.judge.specs.Inside.Found.{Unset}
+use Rattle.judge.specs.Inside.Naming.{AllKnown}
+use Rattle.judge.proofs.Known.{all-known}
 use Rattle.judge.proofs.Marks.{zeros}
-
-pub header-clear : {bs : List ℕ} (k : ℕ) → 5 ≤ k → Clear (Cond bs) k → HeaderOk bs
-header-clear {bs} k l c = header-ok bs (c 2 (omega arith)) (c 3 (omega arith)) (c 4 (omega arith))
 
 pub no-lists : {bs : List ℕ} → (BadList (nameCount bs) (entryNames bs) → ⊥) → (BadList (nameCount bs) (globalNames bs) → ⊥) → BadLists bs → ⊥
 no-lists f g (bad-entry h) = f h
@@ -35,6 +33,13 @@ pub record List8 (ns : List ℕ) : Type 0 where
 
 pub nodes-few : {bs ns : List ℕ} → HeaderOk bs → ns ≡ nodesOf bs → List8 ns
 nodes-few {bs} o e = let l = ap length e ∙ nodes-length bs (o .total) in record { whole = omega (arith, o .nodes); few = omega (arith, o .nodes) }
+
+-- what 7 and 8 leave of it
+pub shape-sound : {bs ns : List ℕ} → Shaped bs → ns ≡ nodesOf bs → Sound ns
+shape-sound {bs} o e = subst Sound (sym e) (sound (nameCount bs) (nodesOf bs) (o .nodes))
+
+pub params-known : {bs ns : List ℕ} → Shaped bs → ns ≡ nodesOf bs → AllKnown ns
+params-known {bs} o e = subst AllKnown (sym e) (all-known (nameCount bs) (nodesOf bs) (o .nodes) (o .children) (o .header .names))
 
 -- the tree that number 7 leaves
 pub sound-held : {ns : List ℕ} → Sound ns → Held ns

@@ -14,3 +14,4 @@ pub mod Naming
 pub mod Cells
 pub mod Known
 pub mod Answers
+pub mod Groups

@@ -1,8 +1,7 @@
--- Numbers given back (document 01): the table of conditions, and what judging answers.
+-- Numbers given back (document 01): the conditions in the order in which they are asked, and what judging answers.
 use Prim.Native.Nat.{ℕ}
-use mathlib.Core.List.{List, [], _∷_}
-use lib.ListN.{getD}
-use Rattle.base.specs.Smallest.{Smallest}
+use mathlib.Core.List.{List, [], _∷_, _++_}
+use Rattle.base.specs.First.{Row, _when_, First}
 use Rattle.nodefile.specs.Layout.{nameCount, nodesOf, namesOf, poolOf}
 use Rattle.judge.specs.Header.{BadHeader, BadCounts, BadLength}
 use Rattle.judge.specs.Names.{BadNames}
@@ -13,24 +12,40 @@ use Rattle.judge.specs.Depth.{TooDeep}
 use Rattle.judge.specs.Scopes.{BadScopes}
 use Rattle.judge.specs.Params.{BadParams}
 
--- the conditions by their numbers; judging leaves 1 and 12 off
-abbrev pub Cond : List ℕ → ℕ → Type 0
-Cond bs k =
-    getD (
-    ⊥  -- 0
-    ∷ ⊥  -- 1
-    ∷ BadHeader bs  -- 2
-    ∷ BadCounts bs  -- 3
-    ∷ BadLength bs  -- 4
-    ∷ BadNames (nameCount bs) (namesOf bs) (poolOf bs)  -- 5
-    ∷ BadLists bs  -- 6
-    ∷ BadNodes (nameCount bs) (nodesOf bs)  -- 7
-    ∷ BadChildren (nodesOf bs)  -- 8
-    ∷ TooDeep (nodesOf bs)  -- 9
-    ∷ BadScopes (nodesOf bs)  -- 10
-    ∷ BadParams (nodesOf bs)  -- 11
-    ∷ []) k ⊥
+-- what the header says
+abbrev pub headerRows : List ℕ → List Row
+headerRows bs =
+    2 when BadHeader bs
+    ∷ 3 when BadCounts bs
+    ∷ 4 when BadLength bs
+    ∷ []
 
--- r is the smallest number whose condition holds, 0 if none; `smallest-one` says that no second answer fits
+-- the names, the module entries and the globals
+abbrev pub listRows : List ℕ → List Row
+listRows bs =
+    5 when BadNames (nameCount bs) (namesOf bs) (poolOf bs)
+    ∷ 6 when BadLists bs
+    ∷ []
+
+-- the nodes: each by its fields, and by its children
+abbrev pub shapeRows : List ℕ → List Row
+shapeRows bs =
+    7 when BadNodes (nameCount bs) (nodesOf bs)
+    ∷ 8 when BadChildren (nodesOf bs)
+    ∷ []
+
+-- depth, scope numbers and parameters
+abbrev pub scopeRows : List ℕ → List Row
+scopeRows bs =
+    9 when TooDeep (nodesOf bs)
+    ∷ 10 when BadScopes (nodesOf bs)
+    ∷ 11 when BadParams (nodesOf bs)
+    ∷ []
+
+-- document 01's table; judging leaves 1 and 12 off
+abbrev pub judging : List ℕ → List Row
+judging bs = headerRows bs ++ (listRows bs ++ (shapeRows bs ++ scopeRows bs))
+
+-- r is the first number whose condition holds, 0 if none; `first-one` says that no second answer fits, `judged-smallest` that r is the smallest
 abbrev pub Judged : List ℕ → ℕ → Type 0
-Judged bs r = Smallest (Cond bs) 12 r
+Judged bs r = First (judging bs) r

@@ -6,3 +6,4 @@ pub mod Code
 pub mod Held
 pub mod Found
 pub mod Naming
+pub mod Shaped

@@ -1,4 +1,4 @@
-// Judging a node file: the smallest of the numbers 2 to 11 whose condition holds, or 0; and the spelling of a name.
+// Judging a node file: the first of the numbers 2 to 11 whose condition holds, or 0; and the spelling of a name.
 mod children;
 mod depth;
 mod header;
@@ -9,13 +9,15 @@ mod params;
 mod scopes;
 mod wide;
 
-ghost use Rattle.base.specs.Smallest.{Clear, Smallest};
-ghost use Rattle.judge.specs.Cond.{Cond, Judged};
+ghost use Rattle.base.specs.First.{First};
+ghost use Rattle.judge.specs.Header.{HeaderOk};
+ghost use Rattle.judge.specs.Inside.Shaped.{Shaped};
+ghost use Rattle.judge.specs.Cond.{headerRows, listRows, shapeRows, scopeRows, Judged};
 ghost use Rattle.judge.specs.Spelling.{Spelling};
 
 // Numbers 2 to 4.
 fn judge_header(file: &[u8]) -> u64
-    ensures { λ r. ⌜ Smallest (Cond (now (file .entry))) 5 r ⌝ }
+    ensures { λ r. ⌜ First (headerRows (now (file .entry))) r ⌝ }
 {
     if header::bad_header(file) {
         return 2;
@@ -31,8 +33,8 @@ fn judge_header(file: &[u8]) -> u64
 
 // Numbers 5 and 6, of a file that 2 to 4 let pass.
 fn judge_lists(file: &[u8]) -> u64
-    requires { ⌜ Clear (Cond (now file)) 5 ⌝ }
-    ensures { λ r. ⌜ Smallest (Cond (now (file .entry))) 7 r ⌝ }
+    requires { ⌜ HeaderOk (now file) ⌝ }
+    ensures { λ r. ⌜ First (listRows (now (file .entry))) r ⌝ }
 {
     let known = nodefile::name_count(file);
     let names = nodefile::names(file);
@@ -53,10 +55,9 @@ fn judge_lists(file: &[u8]) -> u64
     0
 }
 
-// Numbers 7 to 11, of a file that 2 to 6 let pass.
-fn judge_nodes(file: &[u8]) -> u64
-    requires { ⌜ Clear (Cond (now file)) 7 ⌝ }
-    ensures { λ r. ⌜ Judged (now (file .entry)) r ⌝ }
+// Numbers 7 and 8.
+fn judge_shape(file: &[u8]) -> u64
+    ensures { λ r. ⌜ First (shapeRows (now (file .entry))) r ⌝ }
 {
     let known = nodefile::name_count(file);
     let list = nodefile::nodes(file);
@@ -66,6 +67,15 @@ fn judge_nodes(file: &[u8]) -> u64
     if children::bad_children(list) {
         return 8;
     }
+    0
+}
+
+// Numbers 9 to 11, of a file that 2 to 4, 7 and 8 let pass.
+fn judge_scopes(file: &[u8]) -> u64
+    requires { ⌜ Shaped (now file) ⌝ }
+    ensures { λ r. ⌜ First (scopeRows (now (file .entry))) r ⌝ }
+{
+    let list = nodefile::nodes(file);
     if depth::deeper(list, 64) {
         return 9;
     }
@@ -79,7 +89,7 @@ fn judge_nodes(file: &[u8]) -> u64
     0
 }
 
-// The smallest number of document 01's table whose condition holds, 1 and 12 left off; 0 if none.
+// The first number of document 01's table whose condition holds, 1 and 12 left off; 0 if none.
 pub fn judge(file: &[u8]) -> u64
     ensures { λ r. ⌜ Judged (now (file .entry)) r ⌝ }
 {
@@ -91,7 +101,11 @@ pub fn judge(file: &[u8]) -> u64
     if lists != 0 {
         return lists;
     }
-    judge_nodes(file)
+    let shape = judge_shape(file);
+    if shape != 0 {
+        return shape;
+    }
+    judge_scopes(file)
 }
 
 // The spelling of a name, as a stretch of the file; an empty part of a file that judging refuses, or where there is no such name.

@@ -6,7 +6,7 @@ use native.Mathlib.Omega.{arith}
 use native.Mathlib.Decide.{decLt}
 use lib.ListN.{length, getD, replicate, length-replicate}
 use Rattle.base.specs.UpTo.{upTo}
-use Rattle.base.specs.Smallest.{Smallest}
+use Rattle.base.specs.First.{First, here, later}
 use Rattle.lexical.specs.Module.{File}
 use Rattle.lexical.specs.Records.{records}
 use Rattle.store.specs.Laws.Points.{Zeros, zeros}
@@ -14,9 +14,9 @@ use Rattle.judge.specs.Cond.{Judged}
 use Rattle.scope.specs.declared.Answer.{Answer}
 use Rattle.scope.specs.Buffers.{Buffers, Short, short-nodes, short-bindings, short-entries, short-scopes, short-slots, short-copies, short-errors, Front, Zeroed}
 use Rattle.scope.specs.Packed.{bindingOf, entryOf, pairOf, copyOf, nodeAnswer}
-use Rattle.scope.specs.Answer.{ManySlots, many-slots, Cond, refusal, Refused, Given, Resolves}
+use Rattle.scope.specs.Answer.{ManySlots, many-slots, resolving, refusal, Refused, Given, Resolves}
 use Rattle.scope.specs.Accepted.{PreAccepted, Accepting, many, few}
-use Rattle.scope.specs.Laws.Conditions.{smallest-short, smallest-judged, smallest-many, smallest-none}
+use Rattle.scope.specs.Laws.Conditions.{first-short, first-judged, first-walked}
 use Rattle.scope.specs.Laws.Accepts.{judged-ready, judged-tree}
 
 -- ---- buffers that are cleared
@@ -85,16 +85,16 @@ module _ {b b₁ : Buffers} (z : Zeroed b b₁) where
 
 module _ {bs : List ℕ} {b b₁ : Buffers} (z : Zeroed b b₁) where
   -- a refusal before the walks
-  refusing : {a : Answer} (n : ℕ) → (n ≡ 0 → ⊥) → a ≡ refusal n → Smallest (Cond bs b) 13 n → Resolves bs b a b₁
+  refusing : {a : Answer} (n : ℕ) → (n ≡ 0 → ⊥) → a ≡ refusal n → First (resolving bs b) n → Resolves bs b a b₁
   refusing {a} n h q s =
       let e : a .number ≡ n = ap (λ (x : Answer). x .number) q in
-      record { number = rw e s; refused = λ _. refused-with z q; given = λ y. absurd (h (sym e ∙ y)) }
+      record { number = subst (First (resolving bs b)) (sym e) s; refused = λ _. refused-with z q; given = λ y. absurd (h (sym e ∙ y)) }
 
   pub too-short : {a : Answer} → Short b → a ≡ refusal 1 → Resolves bs b a b₁
-  too-short s q = refusing 1 (λ e. omega arith) q (smallest-short bs b s)
+  too-short s q = refusing 1 (λ e. omega arith) q (first-short bs b s)
 
   pub judged : {a : Answer} {n : ℕ} → (Short b → ⊥) → (n ≡ 0 → ⊥) → Judged bs n → a ≡ refusal n → Resolves bs b a b₁
-  judged {a} {n} s h j q = refusing n h q (smallest-judged bs b s n h j)
+  judged {a} {n} s h j q = refusing n h q (first-judged bs b s n h j)
 
   -- an accepted file
   pub pre-accepted : (Short b → ⊥) → Judged bs 0 → PreAccepted bs b₁
@@ -122,9 +122,9 @@ module _ {bs : List ℕ} {b b₁ : Buffers} (z : Zeroed b b₁) where
   }
 
   pub resolves : {a : Answer} {b′ : Buffers} → (Short b → ⊥) → Judged bs 0 → Accepting bs b₁ a b′ → Resolves bs b a b′
-  resolves s j (many e m r) = record { number = rw e (smallest-many bs b s j m); refused = λ _. refused-as z r; given = λ y. absurd (omega arith) }
+  resolves {a} s j (many e m r) = record { number = first-walked bs b s (a .number) j (here m e); refused = λ _. refused-as z r; given = λ y. absurd (omega arith) }
   resolves {a} {b′} s j (few e g) = record {
-    number = rw e (smallest-none bs b s j not-many);
+    number = first-walked bs b s (a .number) j (later not-many e);
     refused = λ n. absurd (n e);
     given = λ _ root r. given-as z (g root r .1);
   }

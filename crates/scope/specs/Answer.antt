@@ -1,9 +1,9 @@
 -- What `resolve` answers (document 01, "Numbers given back" and "Answer buffers"): the number, the counts, and every buffer.
 use Prim.Native.Nat.{ℕ, _<_}
 use mathlib.Core.Path.{_≡_}
-use mathlib.Core.List.{List, [], _∷_, map}
-use lib.ListN.{length, getD}
-use Rattle.base.specs.Smallest.{Smallest}
+use mathlib.Core.List.{List, [], _∷_, _++_, map}
+use lib.ListN.{length}
+use Rattle.base.specs.First.{Row, _when_, First}
 use Rattle.base.specs.UpTo.{upTo}
 use Rattle.lexical.specs.Tree.{Forest}
 use Rattle.lexical.specs.Module.{File}
@@ -12,7 +12,7 @@ use Rattle.lexical.specs.Records.{records}
 use Rattle.nodefile.specs.Layout.{nodeCount, nodesOf}
 use Rattle.nodefile.specs.Reads.{Reads}
 use Rattle.nodefile.specs.FileOf.{fileOf}
-use Rattle.judge.specs.Cond as judging
+use Rattle.judge.specs.Cond.{judging}
 use Rattle.scope.specs.declared.Answer.{Answer}
 use Rattle.scope.specs.Buffers.{Buffers, Short, Front, Zeroed}
 use Rattle.scope.specs.Packed.{bindingOf, entryOf, pairOf, copyOf, nodeAnswer}
@@ -21,24 +21,17 @@ use Rattle.scope.specs.Packed.{bindingOf, entryOf, pairOf, copyOf, nodeA
 pub data ManySlots (bs : List ℕ) : Type 0 where
   many-slots : (root : Forest) → Reads (nodesOf bs) 0 root → 4096 < length (resolved (fileOf bs root) .slots) → ManySlots bs
 
--- the conditions by their number: 1, judging's 2 to 11, 12
-abbrev pub Cond : List ℕ → Buffers → ℕ → Type 0
-Cond bs b k =
-    getD (
-    ⊥
-    ∷ Short b
-    ∷ judging.Cond bs 2
-    ∷ judging.Cond bs 3
-    ∷ judging.Cond bs 4
-    ∷ judging.Cond bs 5
-    ∷ judging.Cond bs 6
-    ∷ judging.Cond bs 7
-    ∷ judging.Cond bs 8
-    ∷ judging.Cond bs 9
-    ∷ judging.Cond bs 10
-    ∷ judging.Cond bs 11
-    ∷ ManySlots bs
-    ∷ []) k ⊥
+-- what is asked of the buffers, before the file
+abbrev pub bufferRows : Buffers → List Row
+bufferRows b = 1 when Short b ∷ []
+
+-- what is asked of a file that judging accepts
+abbrev pub walkRows : List ℕ → List Row
+walkRows bs = 12 when ManySlots bs ∷ []
+
+-- the conditions in the order in which they are asked: the buffers', judging's, the walks'
+abbrev pub resolving : List ℕ → Buffers → List Row
+resolving bs b = bufferRows b ++ (judging bs ++ walkRows bs)
 
 -- a refusal's number, and no counts
 abbrev pub refusal : ℕ → Answer
@@ -69,6 +62,6 @@ pub record Given (F : File) (n : ℕ) (b : Buffers) (a : Answer) (b′ : Buffers
   pub errors-hold : Front (b′ .errors) (length (b .errors)) (map pairOf (records F .errors))
 
 pub record Resolves (bs : List ℕ) (b : Buffers) (a : Answer) (b′ : Buffers) : Type 0 where
-  pub number : Smallest (Cond bs b) 13 (a .number)
+  pub number : First (resolving bs b) (a .number)
   pub refused : (a .number ≡ 0 → ⊥) → Refused b a b′
   pub given : a .number ≡ 0 → (root : Forest) → Reads (nodesOf bs) 0 root → Given (fileOf bs root) (nodeCount bs) b a b′

@@ -1,5 +1,5 @@
 -- What `resolve` promises of any bytes bs and any buffers b, off its contract `Resolves bs b a b′`: a is the answer, b′ the buffers afterwards. The words are in Shown; the proofs stand in Laws.
---     demand 1   none-true, resolves-one                                           (that every refusal is all zeros is a clause of `Resolves`)
+--     demand 1   none-true, number-smallest, resolves-one                          (that every refusal is all zeros is a clause of `Resolves`)
 --     demand 2   T1, T1-errors, T1-names, T1-others, T1-captured, reads-back       each node's record, each error and each binding against the definition of what a name means
 --     demand 3   T2, T3, T3-met                                                    the copies lead from an answer to the variable, and no scheme copies less
 use Prim.Native.Nat.{ℕ, _<_, _≤_}
@@ -8,7 +8,8 @@ use mathlib.Core.List.{List, [], _∷_, map}
 use mathlib.Core.Option.{some}
 use native.Mathlib.Omega.{arith}
 use lib.ListN.{length, getD}
-use Rattle.base.specs.Smallest.{Clear, none, smallest-one}
+use Rattle.base.specs.First.{NoneHolds, first-one, none-first}
+use Rattle.base.specs.Smallest.{Smallest, first-smallest}
 use Rattle.lexical.specs.Tree.{Forest}
 use Rattle.lexical.specs.Module.{File, outerOf}
 use Rattle.lexical.specs.Meaning.{Around}
@@ -25,7 +26,7 @@ use Rattle.follow.specs.Place.{copiesOf}
 use Rattle.scope.specs.declared.Answer.{Answer}
 use Rattle.scope.specs.Buffers.{Buffers, Front}
 use Rattle.scope.specs.Packed.{pairOf}
-use Rattle.scope.specs.Answer.{Cond, Given, Resolves}
+use Rattle.scope.specs.Answer.{resolving, Given, Resolves}
 use Rattle.scope.specs.Ready.{Ready}
 use Rattle.scope.specs.Shown.{nodeFields, copyRecords, nodesAround, Told, NameShown, CapturedShown, Homeward, ServesAll, lists, AllBack}
 use Rattle.scope.specs.Laws.Accepts.{judged-tree}
@@ -40,8 +41,12 @@ use Rattle.scope.specs.Laws.Captured.{captured-shown}
 use Rattle.scope.specs.Laws.Least.{serves-lookups, serves-idents}
 
 -- A file and buffers of which no condition is true get 0: nothing is refused without its cause.
-pub none-true : {bs : List ℕ} {b b′ : Buffers} {a : Answer} → Resolves bs b a b′ → Clear (Cond bs b) 13 → a .number ≡ 0
-none-true r c = smallest-one (r .number) (none refl c)
+pub none-true : {bs : List ℕ} {b b′ : Buffers} {a : Answer} → Resolves bs b a b′ → NoneHolds (resolving bs b) → a .number ≡ 0
+none-true {bs} {b} r none = first-one (resolving bs b) (r .number) (none-first (resolving bs b) none)
+
+-- The number is the smallest whose condition holds, as document 01 says: the rows' numbers stand in rising order.
+pub number-smallest : {bs : List ℕ} {b b′ : Buffers} {a : Answer} → Resolves bs b a b′ → Smallest (resolving bs b) (a .number)
+number-smallest {bs} {b} {b′} {a} r = first-smallest (resolving bs b) (a .number) tt (r .number)
 
 -- No second answer fits, in its number, its counts or any element of any buffer.
 pub resolves-one : {bs : List ℕ} {b b₁ b₂ : Buffers} {a c : Answer} → Resolves bs b a b₁ → Resolves bs b c b₂ → (a ≡ c) × (b₁ ≡ b₂)

@@ -5,12 +5,12 @@ use mathlib.Core.Bool.{true, false}
 use mathlib.Core.List.{List}
 use native.Mathlib.Omega.{arith}
 use Rattle.base.specs.Says.{Says, says-true, says-false}
-use Rattle.base.specs.Smallest.{found, none, clear-more}
+use Rattle.base.specs.First.{here, later}
 use Rattle.base.specs.UpTo.{upTo}
 use Rattle.judge.specs.Names.{BadNames}
 use Rattle.judge.specs.Lists.{BadList, bad-entry, bad-global}
 use Rattle.judge.specs.Inside.Line.{lineOf}
-use Rattle.judge.proofs.Answers.{header-clear, no-lists}
+use Rattle.judge.proofs.Answers.{no-lists}
 use borrow.Author.Needs.{needs}
 use Rattle.judge.proofs.judge_lists.Statement.{statement}
 use Rattle.judge.proofs.judge_lists.Tie as tie
@@ -26,15 +26,14 @@ pool-requires c κs = search needs
 
 bad-names-requires : tie.Need-bad-names-requires
 bad-names-requires c κs =
-    let header′ = header-clear 5 (omega arith) (c .before .before .before .before .pre) in
+    let header′ = c .before .before .before .before .pre in
     omega (arith, header′ .names, c .before .before .name-count .ensures .is)
 
 returns : tie.Need-returns
 returns c =
-    let pre′ = c .before .before .before .before .before .before .pre in
     let bad-names′ = c .before .bad-names in
     let five′ = subst₃ (λ (n : ℕ) (nm pool : List ℕ). Says (bad-names′ .result) (BadNames n nm pool)) (c .before .before .before .before .name-count .ensures .is) (c .before .before .before .names .ensures) (c .before .before .pool .ensures) (bad-names′ .ensures) in
-    found (omega arith) (omega arith) pre′ (says-true (c .if1 .taken) five′)
+    here (says-true (c .if1 .taken) five′) refl
 
 entries-requires : tie.Need-entries-requires
 entries-requires c κs = search needs
@@ -45,8 +44,7 @@ entry-count-requires c κs = search needs
 bad-list-requires : tie.Need-bad-list-requires
 bad-list-requires c κs =
     let name-count′ = c .before .before .before .before .before .before .name-count in
-    let pre′ = c .before .before .before .before .before .before .before .before .pre in
-    let header′ = header-clear 5 (omega arith) pre′ in
+    let header′ = c .before .before .before .before .before .before .before .before .pre in
     omega (arith, header′ .names, header′ .entries, name-count′ .ensures .is, c .entry-count .ensures .is)
 
 returns-2 : tie.Need-returns-2
@@ -56,11 +54,9 @@ returns-2 c =
     let names′ = c .before .before .before .before .before .before .before .names in
     let pool′ = c .before .before .before .before .before .before .pool in
     let bad-list′ = c .before .bad-list in
-    let pre′ = c .before .before .before .before .before .before .before .before .before .before .pre in
     let five′ = subst₃ (λ (n : ℕ) (nm pool : List ℕ). Says (bad-names′ .result) (BadNames n nm pool)) (name-count′ .ensures .is) (names′ .ensures) (pool′ .ensures) (bad-names′ .ensures) in
     let entry′ = subst₃ (λ (k n : ℕ) (es : List ℕ). Says (bad-list′ .result) (BadList k (upTo (lineOf es true) n))) (name-count′ .ensures .is) (c .before .before .entry-count .ensures .is) (c .before .before .before .entries .ensures) (bad-list′ .ensures) in
-    let c6′ = clear-more 5 pre′ (says-false (c .before .before .before .before .if1 .left) five′) in
-    found (omega arith) (omega arith) c6′ (bad-entry (says-true (c .if2 .taken) entry′))
+    later (says-false (c .before .before .before .before .if1 .left) five′) (here (bad-entry (says-true (c .if2 .taken) entry′)) refl)
 
 globals-requires : tie.Need-globals-requires
 globals-requires c κs = search needs
@@ -71,8 +67,7 @@ global-count-requires c κs = search needs
 bad-list-requires-2 : tie.Need-bad-list-requires-2
 bad-list-requires-2 c κs =
     let name-count′ = c .before .before .before .before .before .before .before .before .before .before .name-count in
-    let pre′ = c .before .before .before .before .before .before .before .before .before .before .before .before .pre in
-    let header′ = header-clear 5 (omega arith) pre′ in
+    let header′ = c .before .before .before .before .before .before .before .before .before .before .before .before .pre in
     omega (arith, header′ .names, header′ .globals, name-count′ .ensures .is, c .global-count .ensures .is)
 
 returns-3 : tie.Need-returns-3
@@ -82,12 +77,10 @@ returns-3 c =
     let names′ = c .before .before .before .before .before .before .before .before .before .before .before .names in
     let pool′ = c .before .before .before .before .before .before .before .before .before .before .pool in
     let bad-list2′ = c .before .bad-list2 in
-    let pre′ = c .before .before .before .before .before .before .before .before .before .before .before .before .before .before .pre in
     let if1′ = c .before .before .before .before .before .before .before .before .if1 in
     let five′ = subst₃ (λ (n : ℕ) (nm pool : List ℕ). Says (bad-names′ .result) (BadNames n nm pool)) (name-count′ .ensures .is) (names′ .ensures) (pool′ .ensures) (bad-names′ .ensures) in
     let global′ = subst₃ (λ (k n : ℕ) (gs : List ℕ). Says (bad-list2′ .result) (BadList k (upTo (lineOf gs false) n))) (name-count′ .ensures .is) (c .before .before .global-count .ensures .is) (c .before .before .before .globals .ensures) (bad-list2′ .ensures) in
-    let c6′ = clear-more 5 pre′ (says-false (if1′ .left) five′) in
-    found (omega arith) (omega arith) c6′ (bad-global (says-true (c .if3 .taken) global′))
+    later (says-false (if1′ .left) five′) (here (bad-global (says-true (c .if3 .taken) global′)) refl)
 
 returns-4 : tie.Need-returns-4
 returns-4 c =
@@ -99,13 +92,11 @@ returns-4 c =
     let entry-count′ = c .before .before .before .before .before .before .entry-count in
     let entries′ = c .before .before .before .before .before .before .before .entries in
     let bad-list2′ = c .before .bad-list2 in
-    let pre′ = c .before .before .before .before .before .before .before .before .before .before .before .before .before .before .pre in
     let if1′ = c .before .before .before .before .before .before .before .before .if1 in
     let five′ = subst₃ (λ (n : ℕ) (nm pool : List ℕ). Says (bad-names′ .result) (BadNames n nm pool)) (name-count′ .ensures .is) (names′ .ensures) (pool′ .ensures) (bad-names′ .ensures) in
     let entry′ = subst₃ (λ (k n : ℕ) (es : List ℕ). Says (bad-list′ .result) (BadList k (upTo (lineOf es true) n))) (name-count′ .ensures .is) (entry-count′ .ensures .is) (entries′ .ensures) (bad-list′ .ensures) in
     let global′ = subst₃ (λ (k n : ℕ) (gs : List ℕ). Says (bad-list2′ .result) (BadList k (upTo (lineOf gs false) n))) (name-count′ .ensures .is) (c .before .before .global-count .ensures .is) (c .before .before .before .globals .ensures) (bad-list2′ .ensures) in
-    let c6′ = clear-more 5 pre′ (says-false (if1′ .left) five′) in
-    none refl (clear-more 6 c6′ (no-lists (says-false (c .before .before .before .before .if2 .left) entry′) (says-false (c .if3 .left) global′)))
+    later (says-false (if1′ .left) five′) (later (no-lists (says-false (c .before .before .before .before .if2 .left) entry′) (says-false (c .if3 .left) global′)) refl)
 
 pub judge-lists-spec : {M : Type 1} → statement M
 judge-lists-spec =

@@ -1,15 +1,14 @@
 -- A file longer than any that is accepted: its answer goes by its first 12 bytes.
 use Prim.Native.Nat.{ℕ, _≤_, _<_}
-use mathlib.Core.Path.{_≡_, sym, _∙_, subst}
+use mathlib.Core.Path.{_≡_, sym, _∙_}
 use mathlib.Core.List.{List}
 use native.Mathlib.Omega.{arith}
-use native.Mathlib.Decide.{ℕ-discrete}
 use lib.ListN.{length, take, length-take}
-use Rattle.base.specs.Smallest.{Clear, found, none, clear-none, clear-more}
+use Rattle.base.specs.First.{here, later}
 use Rattle.bits.specs.FieldLaws.{field-take}
 use Rattle.nodefile.specs.Layout.{version, headZero, nodeCount, nameCount, entryCount, globalCount, poolBytes}
 use Rattle.judge.specs.Header.{BadHeader, short, other-version, zero-bits-set, BadCounts, no-nodes, many-nodes, many-names, many-entries, many-globals, large-pool, BadLength, other-length, unless}
-use Rattle.judge.specs.Cond.{Cond, Judged}
+use Rattle.judge.specs.Cond.{Judged}
 
 -- the first 12 bytes say the same
 pub record Same (fs bs : List ℕ) : Type 0 where
@@ -47,33 +46,14 @@ too-long bs h ok = other-length (λ e. omega (
   unless (poolBytes bs) 16384 ok large-pool,
 ))
 
-pub clear-2 : (bs : List ℕ) → Clear (Cond bs) 2
-clear-2 bs = clear-more 1 (clear-more 0 (clear-none (Cond bs)) (λ x. x)) (λ x. x)
-
 module _ {fs bs : List ℕ} (s : Same fs bs) (t : Same bs fs) where
-  clear-3 : Clear (Cond fs) 3 → Clear (Cond bs) 3
-  clear-3 c = clear-more 2 (clear-2 bs) (λ h. c 2 (omega arith) (header t (s .long) h))
-
-  clear-4 : Clear (Cond fs) 4 → Clear (Cond bs) 4
-  clear-4 c = clear-more 3 (clear-3 (λ j l. c j (omega arith))) (λ h. c 3 (omega arith) (counts t (s .long) h))
-
   pub same-answer : {r : ℕ} → Judged fs r → Judged bs r
-  same-answer (none e c) = absurd (c 4 (omega arith) (too-long fs (s .long) (c 3 (omega arith))))
-  same-answer {r} (found p m c h) =
-      elim (ℕ-discrete r 2) [
-        | yes e ↦ found p m (subst (Clear (Cond bs)) (sym e) (clear-2 bs)) (subst (Cond bs) (sym e) (header s (t .long) (subst (Cond fs) e h)))
-        | no a ↦ elim (ℕ-discrete r 3) [
-          | yes e ↦ found p m (subst (Clear (Cond bs)) (sym e) (clear-3 (subst (Clear (Cond fs)) e c))) (subst (Cond bs) (sym e) (counts s (t .long) (subst (Cond fs) e h)))
-          | no b ↦ elim (ℕ-discrete r 4) [
-            | yes e ↦ let k = clear-4 (subst (Clear (Cond fs)) e c) in
-                found p m (subst (Clear (Cond bs)) (sym e) k) (subst (Cond bs) (sym e) (too-long bs (t .long) (k 3 (omega arith))))
-            | no d ↦ elim (ℕ-discrete r 1) [
-              | yes e ↦ absurd (subst (Cond fs) e h)
-              | no g ↦ absurd (c 4 (omega arith) (too-long fs (s .long) (c 3 (omega arith))))
-            ]
-          ]
-        ]
-      ]
+  same-answer (here two e) = here (header s (t .long) two) e
+  same-answer (later two (here three e)) = later (λ h. two (header t (s .long) h)) (here (counts s (t .long) three) e)
+  same-answer (later two (later three (here four e))) =
+      let ok : BadCounts bs → ⊥ = λ h. three (counts t (s .long) h) in
+      later (λ h. two (header t (s .long) h)) (later ok (here (too-long bs (t .long) ok) e))
+  same-answer (later two (later three (later four f))) = absurd (four (too-long fs (s .long) three))
 
 same-front : (bs : List ℕ) (n : ℕ) → 37388 < n → n ≤ length bs → Same (take n bs) bs
 same-front bs n h l =

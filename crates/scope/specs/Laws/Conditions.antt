@@ -1,65 +1,34 @@
--- The numbers that `resolve` gives back against those of judging: 1, then judging's 2 to 11, then 12.
-use Prim.Native.Nat.{ℕ, zero, suc, _<_, _≤_}
-use mathlib.Core.Path.{_≡_, refl, sym, subst}
-use mathlib.Core.List.{List, [], _∷_}
+-- The numbers that `resolve` gives back against those of judging: the buffers' first, then judging's, then the walks'.
+use Prim.Native.Nat.{ℕ}
+use mathlib.Core.Path.{_≡_, refl}
+use mathlib.Core.List.{List, _++_}
 use native.Mathlib.Omega.{arith}
-use native.Mathlib.Decide.{decLt}
-use lib.ListN.{List·getD-append}
-use Rattle.base.specs.Smallest.{Clear, Smallest, found, none, smallest-clear}
-use Rattle.judge.specs.Cond as judging
-use Rattle.judge.specs.Cond.{Judged}
+use Rattle.base.specs.First.{First, NoneHolds, here, none-at, none-first, first-none, first-front, first-after, none-front, none-after}
+use Rattle.judge.specs.Cond.{judging, Judged}
 use Rattle.scope.specs.Buffers.{Buffers, Short}
-use Rattle.scope.specs.Answer.{ManySlots, Cond}
+use Rattle.scope.specs.Answer.{ManySlots, bufferRows, walkRows, resolving}
 
 module _ (bs : List ℕ) (b : Buffers) where
-  -- 2 to 11 are judging's
-  same : (j : ℕ) → j < 10 → Cond bs b (suc (suc j)) ≡ judging.Cond bs (suc (suc j))
-  same j h = List·getD-append
-      (judging.Cond bs 2
-      ∷ judging.Cond bs 3
-      ∷ judging.Cond bs 4
-      ∷ judging.Cond bs 5
-      ∷ judging.Cond bs 6
-      ∷ judging.Cond bs 7
-      ∷ judging.Cond bs 8
-      ∷ judging.Cond bs 9
-      ∷ judging.Cond bs 10
-      ∷ judging.Cond bs 11
-      ∷ []) (ManySlots bs ∷ []) ⊥ j h
+  pub first-short : Short b → First (resolving bs b) 1
+  first-short s = first-front (bufferRows b) (judging bs ++ walkRows bs) (λ e. omega arith) (here s refl)
 
-  lower : (Short b → ⊥) → (j : ℕ) → j < 12 → Cond bs b j → judging.Cond bs j
-  lower s zero h c = c
-  lower s (suc zero) h c = absurd (s c)
-  lower s (suc (suc j)) h c = subst (λ (X : Type 0). X) (same j (omega arith)) c
+  module _ (long : Short b → ⊥) where
+    after-buffers : (n : ℕ) → First (judging bs ++ walkRows bs) n → First (resolving bs b) n
+    after-buffers n f = first-after (bufferRows b) (judging bs ++ walkRows bs) n (long, tt) f
 
-  raise : (j : ℕ) → j < 12 → judging.Cond bs j → Cond bs b j
-  raise zero h c = c
-  raise (suc zero) h c = absurd c
-  raise (suc (suc j)) h c = subst (λ (X : Type 0). X) (sym (same j (omega arith))) c
+    pub first-judged : (n : ℕ) → (n ≡ 0 → ⊥) → Judged bs n → First (resolving bs b) n
+    first-judged n z j = after-buffers n (first-front (judging bs) (walkRows bs) z j)
 
-  clear-judged : (Short b → ⊥) → (n : ℕ) → n ≤ 12 → Clear (judging.Cond bs) n → Clear (Cond bs b) n
-  clear-judged s n h c j l x = c j l (lower s j (omega arith) x)
-
-  pub smallest-short : Short b → Smallest (Cond bs b) 13 1
-  smallest-short s = found (omega arith) (omega arith) (λ j l x. first j l x) s
-    where
-      first : (j : ℕ) → j < 1 → Cond bs b j → ⊥
-      first zero l x = x
-      first (suc j) l x = omega arith
-
-  pub smallest-judged : (Short b → ⊥) → (n : ℕ) → (n ≡ 0 → ⊥) → Judged bs n → Smallest (Cond bs b) 13 n
-  smallest-judged s n z (found p l c x) = found p (omega arith) (clear-judged s n (omega arith) c) (raise n l x)
-  smallest-judged s n z (none e c) = absurd (z e)
-
-  pub smallest-many : (Short b → ⊥) → Judged bs 0 → ManySlots bs → Smallest (Cond bs b) 13 12
-  smallest-many s j m = found (omega arith) (omega arith) (clear-judged s 12 (omega arith) (smallest-clear refl j)) m
-
-  pub smallest-none : (Short b → ⊥) → Judged bs 0 → (ManySlots bs → ⊥) → Smallest (Cond bs b) 13 0
-  smallest-none s j m = none refl (λ k l x. elim (decLt k 12) [ yes h ↦ smallest-clear refl j k h (lower s k h x) | no h ↦ m (let e : k ≡ 12 = omega arith in subst (Cond bs b) e x) ])
+    -- a file that judging accepts
+    pub first-walked : (n : ℕ) → Judged bs 0 → First (walkRows bs) n → First (resolving bs b) n
+    first-walked n j f = after-buffers n (first-after (judging bs) (walkRows bs) n (first-none (judging bs) 0 tt refl j) f)
 
   -- what an answer of 0 says
-  pub zero-judged : Smallest (Cond bs b) 13 0 → Judged bs 0
-  zero-judged s = none refl (λ j l x. smallest-clear refl s j (omega arith) (raise j l x))
+  pub zero-none : First (resolving bs b) 0 → NoneHolds (resolving bs b)
+  zero-none f = first-none (resolving bs b) 0 tt refl f
 
-  pub zero-few : Smallest (Cond bs b) 13 0 → ManySlots bs → ⊥
-  zero-few s = smallest-clear refl s 12 (omega arith)
+  pub zero-judged : First (resolving bs b) 0 → Judged bs 0
+  zero-judged f = none-first (judging bs) (none-front (judging bs) (walkRows bs) (none-after (bufferRows b) (judging bs ++ walkRows bs) (zero-none f)))
+
+  pub zero-few : First (resolving bs b) 0 → ManySlots bs → ⊥
+  zero-few f = none-at (resolving bs b) (zero-none f) 12

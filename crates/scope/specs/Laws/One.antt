@@ -3,10 +3,10 @@ use Prim.Native.Nat.{ℕ}
 use mathlib.Core.Path.{_≡_, sym, _∙_}
 use mathlib.Core.List.{List}
 use native.Mathlib.Decide.{ℕ-discrete}
-use Rattle.base.specs.Smallest.{smallest-one}
+use Rattle.base.specs.First.{first-one}
 use Rattle.scope.specs.declared.Answer.{Answer}
 use Rattle.scope.specs.Buffers.{Buffers, buffers}
-use Rattle.scope.specs.Answer.{Resolves}
+use Rattle.scope.specs.Answer.{resolving, Resolves}
 use Rattle.scope.specs.Laws.Accepts.{judged-tree}
 use Rattle.scope.specs.Laws.Zero.{zero-accepted}
 
@@ -23,7 +23,7 @@ pub same-answer : {bs : List ℕ} {b b₁ b₂ : Buffers} {a c : Answer} → Res
 same-answer {bs} {b} {b₁} {b₂} {a} {c} r s = elim (ℕ-discrete (a .number) 0) [ yes z ↦ accepted z | no z ↦ refused z ]
   where
     number : a .number ≡ c .number
-    number = smallest-one (r .number) (s .number)
+    number = first-one (resolving bs b) (r .number) (s .number)
 
     accepted : a .number ≡ 0 → (a ≡ c) × (b₁ ≡ b₂)
     accepted z =

@@ -1,11 +1,11 @@
 -- What an answer of 0 says of the file: judging accepts it, and its slots are few enough.
 use Prim.Native.Nat.{ℕ, _≤_}
-use mathlib.Core.Path.{_≡_}
+use mathlib.Core.Path.{_≡_, subst}
 use mathlib.Core.List.{List}
 use native.Mathlib.Omega.{arith}
 use native.Mathlib.Decide.{decLt}
 use lib.ListN.{length}
-use Rattle.base.specs.Smallest.{Smallest}
+use Rattle.base.specs.First.{First}
 use Rattle.lexical.specs.Tree.{Forest}
 use Rattle.lexical.specs.Third.{resolved}
 use Rattle.nodefile.specs.Layout.{nodesOf}
@@ -14,14 +14,14 @@ use Rattle.nodefile.specs.FileOf.{fileOf}
 use Rattle.judge.specs.Cond.{Judged}
 use Rattle.scope.specs.declared.Answer.{Answer}
 use Rattle.scope.specs.Buffers.{Buffers}
-use Rattle.scope.specs.Answer.{many-slots, Cond, Resolves}
+use Rattle.scope.specs.Answer.{many-slots, resolving, Resolves}
 use Rattle.scope.specs.Ready.{Ready}
 use Rattle.scope.specs.Laws.Accepts.{judged-ready}
 use Rattle.scope.specs.Laws.Conditions.{zero-judged, zero-few}
 
 module _ {bs : List ℕ} {b b′ : Buffers} {a : Answer} (r : Resolves bs b a b′) (z : a .number ≡ 0) where
-  none-holds : Smallest (Cond bs b) 13 0
-  none-holds = rw z at (r .number)
+  none-holds : First (resolving bs b) 0
+  none-holds = subst (First (resolving bs b)) z (r .number)
 
   pub zero-accepted : Judged bs 0
   zero-accepted = zero-judged bs b none-holds
