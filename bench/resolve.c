@@ -16,8 +16,10 @@ static uint32_t nodes[VAIB_NODES], module[VAIB_MODULE], scopes[VAIB_SCOPES], slo
 static uint64_t bindings[VAIB_BINDINGS];
 
 static uint64_t resolve(void) {
-    return vaib_resolve(file, length, nodes, VAIB_NODES, bindings, VAIB_BINDINGS, module, VAIB_MODULE, scopes, VAIB_SCOPES, slots,
-                        VAIB_SLOTS, copies, VAIB_COPIES, errors, VAIB_ERRORS).number;
+    struct vaib_answer answer;
+    vaib_resolve(file, length, nodes, VAIB_NODES, bindings, VAIB_BINDINGS, module, VAIB_MODULE, scopes, VAIB_SCOPES, slots, VAIB_SLOTS,
+                 copies, VAIB_COPIES, errors, VAIB_ERRORS, &answer);
+    return answer.number;
 }
 
 static uint64_t now(void) {

@@ -33,8 +33,11 @@ struct lent lend(int more, uint8_t filling) {
 }
 
 struct vaib_answer resolve_lent(const uint8_t *file, size_t length, struct lent *l) {
-    return vaib_resolve(file, length, l->nodes, l->length[0], l->bindings, l->length[1], l->module, l->length[2], l->scopes, l->length[3],
-                        l->slots, l->length[4], l->copies, l->length[5], l->errors, l->length[6]);
+    struct vaib_answer answer;
+    memset(&answer, 0xC5, sizeof answer);
+    vaib_resolve(file, length, l->nodes, l->length[0], l->bindings, l->length[1], l->module, l->length[2], l->scopes, l->length[3], l->slots,
+                 l->length[4], l->copies, l->length[5], l->errors, l->length[6], &answer);
+    return answer;
 }
 
 void check_canaries(const struct lent *l) {

@@ -59,7 +59,8 @@ static void check_answer(const uint8_t *file, unsigned node, struct vaib_answer 
     if (r.class_of == VAIB_LOCAL && n.kind == VAIB_IDENT) {
         uint32_t around[64];
         size_t count = vaib_scopes_around(file, node, around);
-        struct vaib_home home = vaib_follow(l->copies, a.copies, around, count, r.slot);
+        struct vaib_home home;
+        vaib_follow(l->copies, a.copies, around, count, r.slot, &home);
         CHECK(home.slot == b.slot && slot_name(a, l, home.scope, home.slot) == n.value);
         CHECK(home.scope == around[count - 1] || b.captured);
     } else {
@@ -89,7 +90,8 @@ void check_records(const uint8_t *file, struct vaib_answer a, const struct lent 
 void check_spellings(const uint8_t *file, size_t length, uint64_t judged) {
     unsigned names = judged == 0 ? name_count(file) : 0;
     for (unsigned k = names; k + 4 > names && k <= names; k--) {
-        struct vaib_stretch s = vaib_spelling(file, length, k);
+        struct vaib_stretch s;
+        vaib_spelling(file, length, k, &s);
         CHECK((s.length != 0) == (k < names) && s.offset <= length && s.length <= length - s.offset);
         CHECK(s.length != 0 || s.offset == 0);
     }

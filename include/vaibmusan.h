@@ -10,7 +10,7 @@
  *   - there are 512 KB of stack left (seen: 180 KB in vaib_resolve, 260 KB in vaib_listing).
  * The functions keep nothing between calls, take no memory from the heap, and may run in many threads at once.
  *
- * Link with target/staticlib/libvaibmusan.a (`rt staticlib vaibmusan` makes it; x86-64 Linux).
+ * Link with target/staticlib/libvaibmusan.a (tools/staticlib makes it, for the machine it runs on: Linux on x86-64 or Arm).
  * vaibmusan_records.h reads the packed records of an answer, vaibmusan_file.h writes and reads node files: plain C, and not proved. */
 #ifndef VAIBMUSAN_H
 #define VAIBMUSAN_H
@@ -72,32 +72,33 @@ struct vaib_home {
 /* The smallest of the numbers 2 to 11 whose condition holds for these bytes; 0 if none does. */
 uint64_t vaib_judge(const uint8_t *file, size_t length);
 
-/* Where the spelling of a name stands: offset + length lie inside the file, and that stretch is the spelling, at the place
+/* Writes where the spelling of a name stands: offset + length lie inside the file, and that stretch is the spelling, at the place
  * in the pool that the name's record says. Offset 0 and length 0 if judging refuses the file or it has no such name. */
-struct vaib_stretch vaib_spelling(const uint8_t *file, size_t length, size_t name);
+void vaib_spelling(const uint8_t *file, size_t length, size_t name, struct vaib_stretch *stretch);
 
-/* Which variable each name of a file means. The buffers have any lengths and any contents; the answer's number is 0 or the
- * smallest of 1 to 12 whose condition holds.
+/* Which variable each name of a file means. The buffers have any lengths, and they and the answer any contents; the answer's number
+ * is then 0 or the smallest of 1 to 12 whose condition holds.
  * If it is 0, the counts are the lengths of document 01's lists, and each buffer holds its records from the front and then zeros,
  * to its last element: a record for each node, the bindings, the module entries afterwards, a record for each scope from 0 to S,
  * the slots, the copies and the errors in order of making.
  * If it is not 0, the counts are 0 and every element of every buffer is zero. */
-struct vaib_answer vaib_resolve(const uint8_t *file, size_t length,
-                                uint32_t *nodes, size_t nodes_length,
-                                uint64_t *bindings, size_t bindings_length,
-                                uint32_t *module, size_t module_length,
-                                uint32_t *scopes, size_t scopes_length,
-                                uint32_t *slots, size_t slots_length,
-                                uint32_t *copies, size_t copies_length,
-                                uint32_t *errors, size_t errors_length);
+void vaib_resolve(const uint8_t *file, size_t length,
+                  uint32_t *nodes, size_t nodes_length,
+                  uint64_t *bindings, size_t bindings_length,
+                  uint32_t *module, size_t module_length,
+                  uint32_t *scopes, size_t scopes_length,
+                  uint32_t *slots, size_t slots_length,
+                  uint32_t *copies, size_t copies_length,
+                  uint32_t *errors, size_t errors_length,
+                  struct vaib_answer *answer);
 
 /* Where a local slot has its value from. around: the scopes around a place, outermost first (vaib_scopes_around); slot: a slot of
  * the last of them. As long as the first copy record for that scope and slot says so, the value comes from its parent slot in the
- * scope before; the answer is the scope and slot where that ends (scope 0 if no scope is left).
+ * scope before; home is then the scope and slot where that ends (scope 0 if no scope is left).
  * For an answer of vaib_resolve and a local Ident, that is the own slot of the Ident's binding. */
-struct vaib_home vaib_follow(const uint32_t *copies, size_t copies_length,
-                             const uint32_t *around, size_t around_length,
-                             size_t slot);
+void vaib_follow(const uint32_t *copies, size_t copies_length,
+                 const uint32_t *around, size_t around_length,
+                 size_t slot, struct vaib_home *home);
 
 /* The listing of a file (document 01, "One listing in full"; `answer N` and a line feed for a refused file), seen through a window:
  * text receives the listing's bytes from byte `from` on, as many as it has room for, and zeros behind the listing's end. The result

@@ -20,8 +20,10 @@ struct vaib_buffers {
 
 /* vaib_resolve into these, so that no buffer can be too short. */
 static inline struct vaib_answer vaib_resolve_into(const uint8_t *file, size_t length, struct vaib_buffers *b) {
-    return vaib_resolve(file, length, b->nodes, VAIB_NODES, b->bindings, VAIB_BINDINGS, b->module, VAIB_MODULE, b->scopes,
-                        VAIB_SCOPES, b->slots, VAIB_SLOTS, b->copies, VAIB_COPIES, b->errors, VAIB_ERRORS);
+    struct vaib_answer answer;
+    vaib_resolve(file, length, b->nodes, VAIB_NODES, b->bindings, VAIB_BINDINGS, b->module, VAIB_MODULE, b->scopes,
+                 VAIB_SCOPES, b->slots, VAIB_SLOTS, b->copies, VAIB_COPIES, b->errors, VAIB_ERRORS, &answer);
+    return answer;
 }
 
 /* The field of so many bits that ends `low` bits above a record's lowest. */

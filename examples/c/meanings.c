@@ -38,7 +38,8 @@ static size_t build(void) {
 }
 
 static void print_name(size_t length, unsigned name) {
-    struct vaib_stretch s = vaib_spelling(file, length, name);
+    struct vaib_stretch s;
+    vaib_spelling(file, length, name, &s);
     fwrite(file + s.offset, 1, s.length, stdout);
 }
 
@@ -54,7 +55,8 @@ static void print_ident(size_t length, unsigned node, size_t copies) {
     case VAIB_LOCAL: {
         uint32_t around[64];
         size_t count = vaib_scopes_around(file, node, around);
-        struct vaib_home home = vaib_follow(answer.copies, copies, around, count, r.slot);
+        struct vaib_home home;
+        vaib_follow(answer.copies, copies, around, count, r.slot, &home);
         printf(" is slot %u of scope %u; its value comes from slot %zu of scope %zu, declared by node %u\n", r.slot,
                (unsigned)around[count - 1], home.slot, home.scope, vaib_binding_record(answer.bindings[r.binding]).source);
     }

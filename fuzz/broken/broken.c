@@ -4,9 +4,10 @@
 #include "vaibmusan.h"
 
 uint64_t right_judge(const uint8_t *file, size_t length);
-struct vaib_stretch right_spelling(const uint8_t *file, size_t length, size_t name);
-struct vaib_answer right_resolve(const uint8_t *, size_t, uint32_t *, size_t, uint64_t *, size_t, uint32_t *, size_t, uint32_t *, size_t, uint32_t *, size_t, uint32_t *, size_t, uint32_t *, size_t);
-struct vaib_home right_follow(const uint32_t *copies, size_t copies_length, const uint32_t *around, size_t around_length, size_t slot);
+void right_spelling(const uint8_t *file, size_t length, size_t name, struct vaib_stretch *s);
+void right_resolve(const uint8_t *, size_t, uint32_t *, size_t, uint64_t *, size_t, uint32_t *, size_t, uint32_t *, size_t, uint32_t *, size_t, uint32_t *, size_t, uint32_t *, size_t,
+                   struct vaib_answer *);
+void right_follow(const uint32_t *copies, size_t copies_length, const uint32_t *around, size_t around_length, size_t slot, struct vaib_home *home);
 size_t right_listing(const uint8_t *file, size_t length, size_t from, uint8_t *text, size_t text_length);
 
 static int fault(void) {
@@ -22,17 +23,17 @@ uint64_t vaib_judge(const uint8_t *file, size_t length) {
     return number;
 }
 
-struct vaib_stretch vaib_spelling(const uint8_t *file, size_t length, size_t name) {
-    struct vaib_stretch s = right_spelling(file, length, name);
-    if (fault() == 3 && s.offset + s.length == length) s.length++; /* past the file's end */
-    if (fault() == 4 && s.length == 0) s.offset = 1;               /* no spelling, and yet a place */
-    return s;
+void vaib_spelling(const uint8_t *file, size_t length, size_t name, struct vaib_stretch *s) {
+    right_spelling(file, length, name, s);
+    if (fault() == 3 && s->offset + s->length == length) s->length++; /* past the file's end */
+    if (fault() == 4 && s->length == 0) s->offset = 1;                /* no spelling, and yet a place */
 }
 
-struct vaib_answer vaib_resolve(const uint8_t *file, size_t length, uint32_t *nodes, size_t n, uint64_t *bindings, size_t b, uint32_t *module, size_t m, uint32_t *scopes, size_t sc,
-                                uint32_t *slots, size_t sl, uint32_t *copies, size_t c, uint32_t *errors, size_t e) {
+void vaib_resolve(const uint8_t *file, size_t length, uint32_t *nodes, size_t n, uint64_t *bindings, size_t b, uint32_t *module, size_t m, uint32_t *scopes, size_t sc,
+                  uint32_t *slots, size_t sl, uint32_t *copies, size_t c, uint32_t *errors, size_t e, struct vaib_answer *answer) {
     static unsigned calls;
-    struct vaib_answer a = right_resolve(file, length, nodes, n, bindings, b, module, m, scopes, sc, slots, sl, copies, c, errors, e);
+    struct vaib_answer a;
+    right_resolve(file, length, nodes, n, bindings, b, module, m, scopes, sc, slots, sl, copies, c, errors, e, &a);
     calls++;
     switch (fault()) {
     case 5: if (a.number == 3) a.number = 4; break;                          /* another number than judging gives */
@@ -48,13 +49,12 @@ struct vaib_answer vaib_resolve(const uint8_t *file, size_t length, uint32_t *no
     case 15: if (a.slots > 0) scopes[0]++; break;                            /* a slot that was never made */
     case 16: if (a.number == 0 && nodes[1] != 0) nodes[1]++; break;          /* another binding */
     }
-    return a;
+    *answer = a;
 }
 
-struct vaib_home vaib_follow(const uint32_t *copies, size_t copies_length, const uint32_t *around, size_t around_length, size_t slot) {
-    struct vaib_home home = right_follow(copies, copies_length, around, around_length, slot);
-    if (fault() == 17 && around_length > 0) home.scope = around[around_length - 1], home.slot = slot; /* follows nothing */
-    return home;
+void vaib_follow(const uint32_t *copies, size_t copies_length, const uint32_t *around, size_t around_length, size_t slot, struct vaib_home *home) {
+    right_follow(copies, copies_length, around, around_length, slot, home);
+    if (fault() == 17 && around_length > 0) home->scope = around[around_length - 1], home->slot = slot; /* follows nothing */
 }
 
 size_t vaib_listing(const uint8_t *file, size_t length, size_t from, uint8_t *text, size_t text_length) {

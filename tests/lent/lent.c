@@ -24,8 +24,10 @@ static void attempt(size_t size, size_t number) {
     for (size_t k = 0; k < BUFFERS; k++) n[k] = full[k] - (number == k) + (number == BUFFERS + k ? MORE : 0);
     memset(bindings, 255, sizeof bindings);
     memset(others, 255, sizeof others);
-    struct vaib_answer a = vaib_resolve(file, size, others[0], n[0], bindings, n[1], others[2], n[2], others[3], n[3], others[4], n[4],
-                                        others[5], n[5], others[6], n[6]);
+    struct vaib_answer a;
+    memset(&a, 255, sizeof a);
+    vaib_resolve(file, size, others[0], n[0], bindings, n[1], others[2], n[2], others[3], n[3], others[4], n[4], others[5], n[5], others[6],
+                 n[6], &a);
     printf("answer %llu counts %zu %zu %zu %zu %zu filled", (unsigned long long)a.number, a.bindings, a.module, a.slots, a.copies, a.errors);
     for (size_t k = 0; k < BUFFERS; k++) printf(" %zu", filled(k, n[k]));
     for (size_t k = 0; k < BUFFERS; k++)

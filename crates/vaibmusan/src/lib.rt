@@ -1,4 +1,5 @@
-// Vaibmusan for C and for Rust: include/vaibmusan.h says the same in words. A slice is a pointer and a length.
+// Vaibmusan for C and for Rust: include/vaibmusan.h says the same in words. A slice is a pointer and a length; what takes more than
+// a word is written through a reference, by a function that only calls another and stores its result.
 ghost use mathlib.Core.Path.{_≡_};
 ghost use lib.ListN.{length};
 ghost use Rattle.judge.specs.Cond.{Judged};
@@ -32,8 +33,7 @@ pub extern "C" fn vaib_judge(file: &[u8]) -> u64
 }
 
 // Where a name's spelling stands in the file; 0 and 0 where judging refuses the file or there is no such name.
-#[no_mangle]
-pub extern "C" fn vaib_spelling(file: &[u8], name: usize) -> Stretch
+fn stretch_of(file: &[u8], name: usize) -> Stretch
     ensures { λ r. ⌜ Stands (now (file .entry)) name r ⌝ }
 {
     let spelling = judge::spelling(file, name);
@@ -53,6 +53,13 @@ pub extern "C" fn vaib_spelling(file: &[u8], name: usize) -> Stretch
 }
 
 #[no_mangle]
+pub extern "C" fn vaib_spelling(file: &[u8], name: usize, stretch: &mut Stretch)
+    ensures { λ _. ⌜ Stands (now (file .entry)) name (now (stretch .exit)) ⌝ }
+{
+    *stretch = stretch_of(file, name);
+}
+
+#[no_mangle]
 pub extern "C" fn vaib_resolve(
     file: &[u8],
     nodes: &mut [u32],
@@ -62,14 +69,15 @@ pub extern "C" fn vaib_resolve(
     slots: &mut [u32],
     copies: &mut [u32],
     errors: &mut [u32],
-) -> Answer
-    ensures { λ r. ⌜ Resolves (now (file .entry)) (buffers (now (nodes .entry)) (now (bindings .entry)) (now («module» .entry)) (now (scopes .entry)) (now (slots .entry)) (now (copies .entry)) (now (errors .entry))) r (buffers (now (nodes .exit)) (now (bindings .exit)) (now («module» .exit)) (now (scopes .exit)) (now (slots .exit)) (now (copies .exit)) (now (errors .exit))) ⌝ }
+    answer: &mut Answer,
+)
+    ensures { λ _. ⌜ Resolves (now (file .entry)) (buffers (now (nodes .entry)) (now (bindings .entry)) (now («module» .entry)) (now (scopes .entry)) (now (slots .entry)) (now (copies .entry)) (now (errors .entry))) (now (answer .exit)) (buffers (now (nodes .exit)) (now (bindings .exit)) (now («module» .exit)) (now (scopes .exit)) (now (slots .exit)) (now (copies .exit)) (now (errors .exit))) ⌝ }
 {
-    scope::resolve(file, nodes, bindings, module, scopes, slots, copies, errors)
+    *answer = scope::resolve(file, nodes, bindings, module, scopes, slots, copies, errors);
 }
 
-#[no_mangle]
-pub extern "C" fn vaib_follow(copies: &[u32], around: &[u32], slot: usize) -> Home
+// The scope and the slot where a chain of copies ends.
+fn home_of(copies: &[u32], around: &[u32], slot: usize) -> Home
     ensures { λ r. ⌜ r ≡ homeOf (followed (now (copies .entry)) (now (around .entry)) slot) ⌝ }
 {
     let place = follow::follow(copies, around, LocalSlotId(slot));
@@ -79,6 +87,13 @@ pub extern "C" fn vaib_follow(copies: &[u32], around: &[u32], slot: usize) -> Ho
         scope: scope.0,
         slot: own.0,
     }
+}
+
+#[no_mangle]
+pub extern "C" fn vaib_follow(copies: &[u32], around: &[u32], slot: usize, home: &mut Home)
+    ensures { λ _. ⌜ now (home .exit) ≡ homeOf (followed (now (copies .entry)) (now (around .entry)) slot) ⌝ }
+{
+    *home = home_of(copies, around, slot);
 }
 
 // As much of the listing as the window `text` shows from byte `from` on.

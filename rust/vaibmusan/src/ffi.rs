@@ -3,7 +3,7 @@
 
 /// A number and five counts.
 #[repr(C)]
-#[derive(Clone, Copy)]
+#[derive(Clone, Copy, Default)]
 pub struct Answer {
     pub number: u64,
     pub bindings: usize,
@@ -14,12 +14,14 @@ pub struct Answer {
 }
 
 #[repr(C)]
+#[derive(Default)]
 struct Stretch {
     offset: usize,
     length: usize,
 }
 
 #[repr(C)]
+#[derive(Default)]
 struct Home {
     scope: usize,
     slot: usize,
@@ -45,7 +47,7 @@ impl Buffers {
 
 extern "C" {
     fn vaib_judge(file: *const u8, length: usize) -> u64;
-    fn vaib_spelling(file: *const u8, length: usize, name: usize) -> Stretch;
+    fn vaib_spelling(file: *const u8, length: usize, name: usize, stretch: *mut Stretch);
     fn vaib_resolve(
         file: *const u8,
         length: usize,
@@ -63,8 +65,9 @@ extern "C" {
         copies_length: usize,
         errors: *mut u32,
         errors_length: usize,
-    ) -> Answer;
-    fn vaib_follow(copies: *const u32, copies_length: usize, around: *const u32, around_length: usize, slot: usize) -> Home;
+        answer: *mut Answer,
+    );
+    fn vaib_follow(copies: *const u32, copies_length: usize, around: *const u32, around_length: usize, slot: usize, home: *mut Home);
     fn vaib_listing(file: *const u8, length: usize, from: usize, text: *mut u8, text_length: usize) -> usize;
 }
 
@@ -74,13 +77,15 @@ pub fn judge(file: &[u8]) -> u64 {
 }
 
 pub fn spelling(file: &[u8], name: usize) -> &[u8] {
-    // SAFETY: a slice's pointer and length.
-    let s = unsafe { vaib_spelling(file.as_ptr(), file.len(), name) };
+    let mut s = Stretch::default();
+    // SAFETY: a slice's pointer and length, and a struct of this function's.
+    unsafe { vaib_spelling(file.as_ptr(), file.len(), name, &mut s) };
     &file[s.offset..s.offset + s.length]
 }
 
 pub fn resolve(file: &[u8], b: &mut Buffers) -> Answer {
-    // SAFETY: pointers and lengths of a slice and of seven arrays that stand beside each other.
+    let mut answer = Answer::default();
+    // SAFETY: pointers and lengths of a slice and of seven arrays that stand beside each other, and a struct of this function's.
     unsafe {
         vaib_resolve(
             file.as_ptr(),
@@ -99,14 +104,17 @@ pub fn resolve(file: &[u8], b: &mut Buffers) -> Answer {
             b.copies.len(),
             b.errors.as_mut_ptr(),
             b.errors.len(),
+            &mut answer,
         )
     }
+    answer
 }
 
 /// The scope and the slot where a chain of copies ends.
 pub fn follow(copies: &[u32], around: &[u32], slot: usize) -> (usize, usize) {
-    // SAFETY: two slices' pointers and lengths.
-    let home = unsafe { vaib_follow(copies.as_ptr(), copies.len(), around.as_ptr(), around.len(), slot) };
+    let mut home = Home::default();
+    // SAFETY: two slices' pointers and lengths, and a struct of this function's.
+    unsafe { vaib_follow(copies.as_ptr(), copies.len(), around.as_ptr(), around.len(), slot, &mut home) };
     (home.scope, home.slot)
 }
 
