@@ -1,8 +1,4 @@
-"""Two programs on the same files: which answers differ, and the smallest file that shows it.
-
-What is expected of a refused file is second_judge's number; of an accepted one the oracle's
-whole text. Where a name is not UTF-8 the oracle has no answer, and the number alone counts.
-"""
+"""Two answers to the same files: which differ, and the smallest file that shows it."""
 
 import difflib
 import subprocess
@@ -10,57 +6,36 @@ from dataclasses import dataclass
 from itertools import islice
 from pathlib import Path
 
+from compare.expected import agrees
 from compare.shrink import shrink
-from readings.second_judge import judge, judged
+from readings.second_judge import judge
 
 AT_ONCE = 1000                  # files handed over in one run
 WITH_TREE = (0, 8, 9, 10, 11)   # judgements of files whose nodes are a tree
 NODES2TEXT = Path(__file__).resolve().parents[2] / "tools/nodes2text"
 
 
-def utf8(reading):
-    """Are all names of an accepted file UTF-8?"""
-    pool = reading.data[reading.pool_at:]
-    try:
-        for offset, length in reading.names:
-            pool[offset:offset + length].decode()
-    except UnicodeDecodeError:
-        return False
-    return True
-
-
 @dataclass
 class Difference:
-    """A file, its judgement, what was answered and what was expected."""
+    """A file, what was answered and what was expected."""
     data: bytes
-    number: int
     answer: bytes
     expected: bytes
 
 
 class Comparison:
-    """A program under test and the oracle, and what was found so far."""
+    """A program under test (programs.py), what is expected of it (expected.py), and what was found so far."""
 
-    def __init__(self, program, oracle):
-        self.program, self.oracle = program, oracle
+    def __init__(self, program, expected):
+        self.program, self.expected = program, expected
         self.compared = self.differ = 0
         self.smallest = None
 
-    def expected(self, files):
-        """For each file its judgement and the text expected, or how that begins if its number alone counts."""
-        judgements = {data: judged(data) for data in files}
-        for_oracle = [data for data, (number, reading) in judgements.items() if number == 0 and utf8(reading)]
-        texts = dict(zip(for_oracle, self.oracle.answers(for_oracle))) if for_oracle else {}
-        for data in files:
-            number = judgements[data][0]
-            yield number, texts.get(data, b"answer %d" % number + (b"\n" if number else b" "))
-
     def differences(self, files):
         """The differences among these files."""
-        for data, answer, (number, expected) in zip(files, self.program.answers(files), self.expected(files)):
-            agree = answer == expected if expected.endswith(b"\n") else answer.startswith(expected)
-            if not agree:
-                yield Difference(data, number, answer, expected)
+        for data, answer, expected in zip(files, self.program.answers(files), self.expected.texts(files), strict=True):
+            if not agrees(answer, expected):
+                yield Difference(data, answer, expected)
 
     def run(self, files):
         """Compare all files, counting."""
@@ -74,14 +49,24 @@ class Comparison:
 
     def shrunk(self):
         """The smallest difference made smaller; the file keeps its judgement."""
-        number = self.smallest.number
+        number = judge(self.smallest.data)
         if number not in WITH_TREE:
             return self.smallest
 
         def differ(files):
-            found = {d.data for d in self.differences(files) if d.number == number}
+            found = {d.data for d in self.differences(files) if judge(d.data) == number}
             return [data in found for data in files]
         return next(self.differences([shrink(self.smallest.data, differ)]))
+
+    def report(self, save):
+        """Print the smallest difference and the counts, save its file; the status to end with."""
+        if self.smallest:
+            found = self.shrunk()
+            Path(save).write_bytes(found.data)
+            print(*drawn(found.data), "", *beside(found.answer, found.expected), sep="\n")
+            print(f"saved as {save}")
+        print(f"{self.compared} files compared, {self.differ} differ")
+        return int(self.differ > 0)
 
 
 def drawn(data):

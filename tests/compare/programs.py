@@ -1,16 +1,21 @@
-"""Running the programs that are compared: a command that is handed streams, or one file at a time.
+"""Asking what is compared: a command that is handed streams, one that is handed a file at a time, or a library.
 
-A program that stops early has `no answer` to the file it stopped at, which is found by
+A command that stops early has `no answer` to the file it stopped at, which is found by
 handing it fewer files.
 """
 
+import ctypes
 import io
 import shlex
 import subprocess
+import tempfile
+from concurrent.futures import ThreadPoolExecutor
+from pathlib import Path
 
 from files import stream
 
 END = b"\xff" * 4
+JOBS = 2  # commands that run at the same time
 
 
 class Batch:
@@ -45,18 +50,47 @@ class Ended(Batch):
         return answers
 
 
-class Each:
-    """A command that reads one file and writes its answer."""
+class Numbers(Batch):
+    """A command that reads a stream of files and writes a number a line."""
 
-    def __init__(self, command):
-        self.command = shlex.split(command)
+    def split(self, output):
+        return [b"answer %d\n" % int(number) for number in output.split()]
+
+
+class Each:
+    """A command that reads one file and writes its answer; it may end with one of these statuses."""
+
+    def __init__(self, command, statuses=(0,)):
+        self.command, self.statuses = shlex.split(command), statuses
 
     def answers(self, files):
-        return [self.answer(data) for data in files]
+        with ThreadPoolExecutor(JOBS) as pool:
+            return list(pool.map(self.answer, files))
 
     def answer(self, data):
         done = subprocess.run(self.command, input=data, stdout=subprocess.PIPE)
-        return done.stdout if done.returncode == 0 else no_answer(done.returncode)
+        return done.stdout if done.returncode in self.statuses else no_answer(done.returncode)
+
+
+class Library:
+    """A library for this machine's processor, shared or static; `ask` has the answer to a file from it."""
+
+    def __init__(self, path, ask):
+        self.library, self.ask = loaded(Path(path).resolve()), ask
+
+    def answers(self, files):
+        return [self.ask(self.library, data) for data in files]
+
+
+def loaded(path):
+    """A library, loaded; a static one is made a shared one before."""
+    if path.suffix != ".a":
+        return ctypes.CDLL(str(path))
+    with tempfile.TemporaryDirectory() as folder:
+        shared = f"{folder}/library.so"
+        whole = ["-Wl,--whole-archive", path, "-Wl,--no-whole-archive"]
+        subprocess.run(["cc", "-shared", "-o", shared, *whole], check=True)
+        return ctypes.CDLL(shared)
 
 
 def no_answer(status):

@@ -7,6 +7,7 @@ import unittest
 from pathlib import Path
 
 from compare.comparison import Comparison
+from compare.expected import Original
 from files.generate import accepted_files
 from readings import mirror
 from readings.rules import RULES, Broken
@@ -39,7 +40,7 @@ class BrokenRules(unittest.TestCase):
         files, right = [data for data in accepted_files(FILES, 7) if len(data) < SHORT], Right()
         for rule in RULES:
             with self.subTest(rule.name):
-                comparison = Comparison(Broken(rule), right)
+                comparison = Comparison(Broken(rule), Original(right))
                 for at in range(0, len(files), AT_ONCE):
                     comparison.run(files[at:at + AT_ONCE])
                     if comparison.differ:

@@ -5,12 +5,13 @@ accepted    random files that judging accepts (grow.py)
 exhaustive  small trees, spread over all of them (exhaust.py)
 damaged     files with faults of every number from 2 to 11 (damage.py)
 edges       one below, at, and one above each limit (edges.py)
+mixed       some of all of these, about half of them damaged
 """
 
 import argparse
 import random
 import sys
-from itertools import islice
+from itertools import chain, islice
 from pathlib import Path
 
 sys.path.insert(0, str(Path(__file__).resolve().parents[1]))
@@ -41,7 +42,28 @@ def edge_files(count, seed):
     return islice(edges(random.Random(seed)), count)
 
 
-FILES = {"accepted": accepted_files, "exhaustive": exhaustive_files, "damaged": damaged_files, "edges": edge_files}
+SHARES = {accepted_files: 30, exhaustive_files: 14, edge_files: 1}  # in a hundred mixed files; the others are damaged
+
+
+def mixed_files(count, seed):
+    counts = {files: count * share // 100 for files, share in SHARES.items()}
+    counts[damaged_files] = count - sum(counts.values())
+    return chain.from_iterable(files(number, seed) for files, number in counts.items())
+
+
+FILES = {"accepted": accepted_files, "exhaustive": exhaustive_files, "damaged": damaged_files, "edges": edge_files,
+         "mixed": mixed_files}
+KINDS_HELP = f"{', '.join(FILES)}, or: scripts DIR, the files *.nodes in a folder"
+
+
+def chosen(parser, words, count, seed):
+    """The files that the words behind --kind ask for."""
+    kind, *folder = words
+    if kind == "scripts" and len(folder) == 1:
+        return (path.read_bytes() for path in sorted(Path(folder[0]).rglob("*.nodes"))[:count])
+    if kind not in FILES or folder:
+        parser.error(f"--kind is {KINDS_HELP}")
+    return FILES[kind](count, seed)
 
 
 def main():

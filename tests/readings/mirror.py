@@ -8,6 +8,7 @@ with it. Refusals 2 to 11 are second_judge's, which also reads the fields.
 import argparse
 import sys
 from pathlib import Path
+from typing import NamedTuple
 
 sys.path.insert(0, str(Path(__file__).resolve().parents[1]))
 
@@ -69,18 +70,37 @@ def listing(reading, r, full):
             yield b"T %d %s" % (scope, text[name])
 
 
-def answer(data, full=False, check=False):
-    """The listing of a byte string; `check` holds each Ident's answer against its meaning."""
+class Resolved(NamedTuple):
+    """An accepted file: its fields, its lists and tree, the state after the walks, the records."""
+    reading: second_judge.Reading
+    file: lexical.File
+    state: lexical.St
+    records: lexical.Records
+
+
+def resolved(data, check=False):
+    """The number of a byte string, and what it is resolved to if that is 0; `check` holds each Ident's answer against
+    its meaning."""
     number, reading = second_judge.judged(data)
-    if number == 0:
-        F = file_of(reading)
-        st = lexical.resolved(F)
-        if check:
-            meaning.check(F, st)
-        if len(st.slots) <= SLOT_LIMIT:
-            return b"".join(line + b"\n" for line in listing(reading, lexical.records(F, st), full))
-        number = 12
+    if number:
+        return number, None
+    F = file_of(reading)
+    st = lexical.resolved(F)
+    if check:
+        meaning.check(F, st)
+    if len(st.slots) > SLOT_LIMIT:
+        return 12, None
+    return 0, Resolved(reading, F, st, lexical.records(F, st))
+
+
+def refusal(number):
     return b"answer %d\n" % number
+
+
+def answer(data, full=False, check=False):
+    """The listing of a byte string."""
+    number, r = resolved(data, check)
+    return refusal(number) if number else b"".join(line + b"\n" for line in listing(r.reading, r.records, full))
 
 
 def main():
