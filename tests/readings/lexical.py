@@ -1,8 +1,10 @@
 """The specifications of crate `lexical`, runnable in Python.
 
-The three parts follow specs/Tree, specs/Walk and specs/File definition by definition and
-under the same names. A forest is a list of nodes here and the state's lists grow in place;
-nothing else differs. What a name means, outward and without slots, is in meaning.py.
+Each part follows the file of crates/lexical/specs that it is named after, definition by definition
+and under the same names. A forest is a list of nodes here (`Node`) and the state's lists grow in place
+(`addSlot`); `Kind` has the cases of Found, `Walk3` walk three's parameters, `captures` the binding of
+which the crate's `captured` asks. Nothing else differs. What a name means, outward and without slots,
+is in meaning.py.
 """
 
 from dataclasses import dataclass, field
@@ -41,6 +43,24 @@ PICKS = (Pick.through,) * 5 + (Pick.loop, Pick.head, Pick.load, Pick.name, Pick.
 def pick(k):
     """How a kind is collected."""
     return PICKS[k]
+
+
+def params(kids):
+    """A function's parameter variables: its Params that have a Name."""
+    return sum(x.kind == 17 and x.kids != [] for x in kids)
+
+
+def paramsIn(forest):
+    """Each function's scope number and parameter variables."""
+    found = []
+    for x in forest:
+        if way(x.kind) is Way.fn:
+            found.append((x.value, params(x.kids)))
+        found += paramsIn(x.kids)
+    return found
+
+
+# ------------------------------------------------------------------------------- Binders
 
 
 class Names(NamedTuple):
@@ -131,6 +151,30 @@ def merge(vs, ts):
     return list(known.values())
 
 
+# -------------------------------------------------------------------------------- Module
+
+
+class Entry(NamedTuple):
+    name: int
+    public: bool
+    slot: int
+
+
+class File(NamedTuple):
+    names: Names
+    entries: list
+    globals: list
+    root: list
+
+
+def entryVar(e):
+    return Var(e.name, 65535, entry=True, public=e.public, any=False)
+
+
+def moduleVars(F):
+    return merge([entryVar(e) for e in F.entries], collect(F.names, unmarked, F.root))
+
+
 Outer = Enum("Outer", "module global_ missing")
 
 
@@ -143,22 +187,13 @@ def outer(mods, globals_, n):
     return Outer.missing, None
 
 
-def params(kids):
-    """A function's parameter variables: its Params that have a Name."""
-    return sum(x.kind == 17 and x.kids != [] for x in kids)
+def outerOf(F):
+    mods = {v.name: i for i, v in enumerate(moduleVars(F))}
+    globals_ = {n: i for i, n in enumerate(F.globals)}
+    return lambda n: outer(mods, globals_, n)
 
 
-def paramsIn(forest):
-    """Each function's scope number and parameter variables."""
-    found = []
-    for x in forest:
-        if way(x.kind) is Way.fn:
-            found.append((x.value, params(x.kids)))
-        found += paramsIn(x.kids)
-    return found
-
-
-# ---------------------------------------------------------------------------------- Walk
+# --------------------------------------------------------------------------------- State
 
 
 class Binding(NamedTuple):
@@ -221,13 +256,18 @@ class St:
     held: dict = field(default_factory=dict)
 
 
+class Ctx(NamedTuple):
+    """What a name can mean here, innermost block first; the scopes around; is it directly in a Type."""
+    env: tuple
+    scopes: tuple
+    ty: bool
+
+
+# --------------------------------------------------------------------------------- Block
+
+
 def fresh(s, st):
     return st.counts.get(s, 0)
-
-
-def hand(s, i, st):
-    """The first slot of scope s that holds binding i."""
-    return st.held.get((s, i))
 
 
 def addSlot(s, k, b, st):
@@ -263,6 +303,25 @@ def block(s, ts, st):
     return bs
 
 
+# --------------------------------------------------------------------------------- First
+
+
+def moduleBindings(F):
+    """An old entry keeps its slot, a new one has the number of those before it."""
+    kept = [e.slot for e in F.entries]
+    return [Binding(i, v, local=False, owner=0, slot=kept[i] if i < len(kept) else i)
+            for i, v in enumerate(moduleVars(F))]
+
+
+def start(F):
+    st = St(made=moduleBindings(F))
+    naming(collect(F.names, unmarked, F.root), st.made, st)
+    return st
+
+
+# -------------------------------------------------------------------------------- Second
+
+
 def declare(N, forest, rows, st):
     """Walk two: the variables of each Def and Lambda, in node order."""
     for x in forest:
@@ -271,11 +330,27 @@ def declare(N, forest, rows, st):
         declare(N, x.kids, rows, st)
 
 
-class Ctx(NamedTuple):
-    """What a name can mean here, innermost block first; the scopes around; is it directly in a Type."""
-    env: tuple
-    scopes: tuple
-    ty: bool
+# --------------------------------------------------------------------------------- Third
+
+
+def hand(s, i, st):
+    """The first slot of scope s that holds binding i."""
+    return st.held.get((s, i))
+
+
+def bring(scopes, b, st):
+    """A local's slot in the innermost scope: at hand there, or copied from the scope outside, where it is brought
+    first."""
+    if not scopes:
+        return b.slot
+    s = scopes[0]
+    k = hand(s, b.id, st)
+    if k is None:
+        parent = bring(scopes[1:], b, st)
+        k = fresh(s, st)
+        addSlot(s, k, b, st)
+        st.copies.append(Copy(s, parent, k, b.id))
+    return k
 
 
 def inner(bs, c):
@@ -293,21 +368,6 @@ def below(w, c):
     if w is Way.type:
         return c._replace(ty=True)
     return c
-
-
-def bring(scopes, b, st):
-    """A local's slot in the innermost scope: at hand there, or copied from the scope outside, where it is brought
-    first."""
-    if not scopes:
-        return b.slot
-    s = scopes[0]
-    k = hand(s, b.id, st)
-    if k is None:
-        parent = bring(scopes[1:], b, st)
-        k = fresh(s, st)
-        addSlot(s, k, b, st)
-        st.copies.append(Copy(s, parent, k, b.id))
-    return k
 
 
 class Walk3:
@@ -349,49 +409,6 @@ class Walk3:
             self.each(kids, c, st)
 
 
-# ---------------------------------------------------------------------------------- File
-
-
-class Entry(NamedTuple):
-    name: int
-    public: bool
-    slot: int
-
-
-class File(NamedTuple):
-    names: Names
-    entries: list
-    globals: list
-    root: list
-
-
-def entryVar(e):
-    return Var(e.name, 65535, entry=True, public=e.public, any=False)
-
-
-def moduleVars(F):
-    return merge([entryVar(e) for e in F.entries], collect(F.names, unmarked, F.root))
-
-
-def moduleBindings(F):
-    """An old entry keeps its slot, a new one has the number of those before it."""
-    kept = [e.slot for e in F.entries]
-    return [Binding(i, v, local=False, owner=0, slot=kept[i] if i < len(kept) else i)
-            for i, v in enumerate(moduleVars(F))]
-
-
-def start(F):
-    st = St(made=moduleBindings(F))
-    naming(collect(F.names, unmarked, F.root), st.made, st)
-    return st
-
-
-def outerOf(F):
-    mods = {v.name: i for i, v in enumerate(moduleVars(F))}
-    globals_ = {n: i for i, n in enumerate(F.globals)}
-    return lambda n: outer(mods, globals_, n)
-
-
 outermost = Ctx(env=(), scopes=(0,), ty=False)
 
 
@@ -401,6 +418,9 @@ def resolved(F):
     declare(F.names, F.root, rows, st)
     Walk3(F.names, rows, outerOf(F)).each(F.root, outermost, st)
     return st
+
+
+# ------------------------------------------------------------------------------- Records
 
 
 def captures(e):

@@ -1,6 +1,7 @@
 """The mirror: its walks agree with the meanings, and its program answers as its function does."""
 
 import random
+import re
 import subprocess
 import sys
 import unittest
@@ -13,6 +14,29 @@ from files.generate import FILES
 from readings.mirror import answer
 
 HERE = Path(__file__).resolve().parent
+
+
+SPECS = HERE.parents[1] / "crates/lexical/specs"
+OWN = {"Node", "addSlot", "Kind", "Walk3", "captures"}  # lexical.py says what they stand for
+
+
+class Text(unittest.TestCase):
+    """The mirror's text stands beside the definitions': its parts are named after files that have the same names."""
+
+    def assert_defined(self, part, text):
+        there = (SPECS / f"{part}.antt").read_text()
+        for name in re.findall(r"(?m)^(?:class|def) (\w+)", text):
+            if name not in OWN:
+                self.assertRegex(there, rf"(?m)^ *[a-z ]*\b{name}\b.* (:|where)", f"{name} in {part}")
+
+    def test_lexical(self):
+        _, *parts = re.split(r"(?m)^# -+ (\w+)$", (HERE / "lexical.py").read_text())
+        self.assertEqual(len(parts), 18)
+        for part, text in zip(parts[::2], parts[1::2]):
+            self.assert_defined(part, text)
+
+    def test_meaning(self):
+        self.assert_defined("Meaning", (HERE / "meaning.py").read_text().split("def sites")[0])
 
 
 class Mirror(unittest.TestCase):
