@@ -11,6 +11,7 @@ from compare.shrink import shrink
 from readings.second_judge import judge
 
 AT_ONCE = 1000                  # files handed over in one run
+ROW = 16                        # bytes shown in a line
 WITH_TREE = (0, 8, 9, 10, 11)   # judgements of files whose nodes are a tree
 NODES2TEXT = Path(__file__).resolve().parents[2] / "tools/nodes2text"
 
@@ -80,9 +81,18 @@ def drawn(data):
         yield f"{len(data)} bytes: {data[:400].hex(' ')}"
 
 
+def shown(text):
+    """The lines of a text; of packed numbers, which begin with a zero byte or soon have one, the rows that are not all
+    zero."""
+    if b"\0" not in text[:4]:
+        return text.decode(errors="backslashreplace").splitlines()
+    rows = ((at, text[at:at + ROW]) for at in range(0, len(text), ROW))
+    return [f"{at:6}: {row.hex(' ', -4)}" for at, row in rows if any(row)]
+
+
 def beside(answer, expected):
     """Two texts beside each other; lines that differ are marked."""
-    left, right = (text.decode(errors="backslashreplace").splitlines() for text in (answer, expected))
+    left, right = map(shown, (answer, expected))
     width = max(map(len, left + ["the program"]))
     yield f"  {'the program':{width}}   expected"
     for what, a, b, c, d in difflib.SequenceMatcher(None, left, right, autojunk=False).get_opcodes():

@@ -10,6 +10,7 @@ import shlex
 import subprocess
 import tempfile
 from concurrent.futures import ThreadPoolExecutor
+from contextlib import ExitStack
 from pathlib import Path
 
 from files import stream
@@ -58,18 +59,29 @@ class Numbers(Batch):
 
 
 class Each:
-    """A command that reads one file and writes its answer; it may end with one of these statuses."""
+    """A command that reads one file and writes its answer; it may end with one of these statuses. `further` gives more
+    words for a file; bytes among them are put into a file, whose path is the word."""
 
-    def __init__(self, command, statuses=(0,)):
-        self.command, self.statuses = shlex.split(command), statuses
+    def __init__(self, command, statuses=(0,), further=lambda data: []):
+        self.command, self.statuses, self.further = shlex.split(command), statuses, further
 
     def answers(self, files):
         with ThreadPoolExecutor(JOBS) as pool:
             return list(pool.map(self.answer, files))
 
     def answer(self, data):
-        done = subprocess.run(self.command, input=data, stdout=subprocess.PIPE)
+        with ExitStack() as lent:
+            words = [path_of(lent, word) if isinstance(word, bytes) else word for word in self.further(data)]
+            done = subprocess.run(self.command + words, input=data, stdout=subprocess.PIPE)
         return done.stdout if done.returncode in self.statuses else no_answer(done.returncode)
+
+
+def path_of(lent, data):
+    """The path of a file with these bytes, which is there as long as it is lent."""
+    file = lent.enter_context(tempfile.NamedTemporaryFile())
+    file.write(data)
+    file.flush()
+    return file.name
 
 
 class Library:

@@ -7,12 +7,20 @@ import tempfile
 import unittest
 from pathlib import Path
 
+from compare.programs import Each
 from readings.second_judge import judge
 
 HERE = Path(__file__).resolve().parent
 RIGHT = f"{sys.executable} {HERE.parent}/words/vaib"
 HURRIED = f"sh -c '{RIGHT} $0 | sed s/1$/2/'"  # a word's lines that end in 1 end in 2
 ACCEPTS_ALL = "unsigned long vaib_judge(const unsigned char *file, unsigned long length) { return 0; }"
+
+
+class Further(unittest.TestCase):
+
+    def test_words_and_files(self):
+        program = Each("sh -c 'echo $1; cat $2 -' sh", further=lambda data: [str(len(data)), b"lent "])
+        self.assertEqual(program.answers([b"one", b"three"]), [b"3\nlent one", b"5\nlent three"])
 
 
 class Program(unittest.TestCase):
@@ -25,12 +33,12 @@ class Program(unittest.TestCase):
             return done, saved.read_bytes() if saved.exists() else None
 
     def test_right(self):
-        done, saved = self.compare("readers", "10", "1", "--program", RIGHT)
-        self.assertRegex(done.stdout, "^[0-9]+ files compared, 0 differ\n$", done.stderr)
+        done, saved = self.compare("readers", "3", "1", "--kind", "accepted", "--program", RIGHT)
+        self.assertRegex(done.stdout, "^readers: [0-9]+ files compared, 0 differ\n$", done.stderr)
         self.assertEqual((done.returncode, saved), (0, None))
 
     def test_wrong(self):
-        done, saved = self.compare("plan", "1", "1", "--kind", "exhaustive", "--program", HURRIED)
+        done, saved = self.compare("plan", "1", "1", "--kind", "accepted", "--program", HURRIED)
         self.assertEqual(done.returncode, 1, done.stderr)
         self.assertIn("| answer 0 scopes", done.stdout)
         self.assertEqual(judge(saved), 0)

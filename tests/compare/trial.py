@@ -3,9 +3,9 @@
 
 For each of some random files (files/grow.py) a theorem is written, proved by `refl`: the records that the definitions
 compute are those of the oracle's full listing. Every column is compared: bindings, module entries afterwards, scopes,
-slots, copies, Names, Idents, errors; Names and Idents, which the oracle lists in node order, in the order of the mirror's
-records. The theorems are checked in a scratch copy of the crate (`rt dev`). The last line counts; the exit status is 1 if
-any differ.
+slots, copies, Names, Idents, errors; Names and Idents, which the oracle lists in node order, in the order of the
+mirror's records. The theorems are checked in a scratch copy of the crate (`rt dev`). The last line counts; the exit
+status is 1 if any differ.
 """
 
 import argparse

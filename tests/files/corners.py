@@ -83,7 +83,8 @@ def plan():
         yield edges.slots(random.Random(1), count)
 
 
-CORNERS = {"readers": readers, "declaration": declaration, "plan": plan, "plan-bytes": plan}
+CORNERS = {"readers": readers, "declaration": declaration, "declaration-node": declaration, "plan": plan,
+           "plan-bytes": plan}
 
 
 def corners(word):

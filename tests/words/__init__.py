@@ -1,7 +1,8 @@
 """What `vaib WORD` must print, a module for each word, written from document 02 over the mirror's records.
 
-`text(data)` is what the word prints for a file; `ask(library, data)`, where there is one, has the same
-text out of the static library's functions. A word with a dash is a module with an underscore.
+`text(data)` is what the word prints for a file. Where there is one, `ask(library, data)` has the same text out of
+the static library's functions, and `further(data)` gives the words behind `WORD` for this file: text, or the bytes
+of a file whose path is the word. A module is named after its word, with an underscore for a dash.
 """
 
 import importlib
@@ -12,6 +13,7 @@ WORDS = sorted(path.stem.replace("_", "-") for path in Path(__file__).parent.glo
 
 
 def module(word):
+    """The module for a word."""
     return importlib.import_module(f"words.{word.replace('-', '_')}")
 
 
