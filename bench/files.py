@@ -1,172 +1,180 @@
 #!/usr/bin/env python3
-# files.py FOLDER: writes node files made of real scripts, the modules of Python's own standard library:
-# real-8, real-100, real-500, real-800, real-1000, real-2000 (about so many nodes), names-1024 (as many names as a file may have).
-import ast, os, sys, sysconfig
+"""Writes node files made of real scripts, the modules of Python's own standard library: files.py FOLDER.
+
+real-8, real-100, real-500, real-800, real-1000, real-2000 (about so many nodes); names-1024, as many names as a file may have;
+flat-2048, as many nodes.
+"""
+
+import ast
+import copy
+import sys
+import sysconfig
+from pathlib import Path
+
+sys.path.insert(0, str(Path(__file__).resolve().parent.parent / "tools"))
+from nodefile import ASSIGN, BLOCK, COMPR, DEF, FOR, FOR_CLAUSE, IDENT, IF, IF_CLAUSE, LAMBDA, LOAD, MAX_NAMES, MAX_NODES, \
+    MAX_SCOPES, MODIFY, NAME, OTHER, PARAM, PLACE, PLAIN, TUPLE, TYPE, File, Node, pack, preorder  # noqa: E402
+
+SIZES = (8, 100, 500, 800, 1000, 2000)
+LOOKED_AT = 60     # modules, for each size
+GLOBALS = 8        # the last names of a script are its globals, so many of them
+LONGEST = 37388    # bytes of an accepted file
 
 
-class File:
+def node(kind, *kids, value=0):
+    return Node(kind, value, kids=list(kids))
+
+
+class Converter:
+    """Python's statements and expressions as nodes: names and scopes are numbered as they are met."""
+
     def __init__(self):
         self.names, self.scopes = {}, 0
 
-    def name(self, text):
-        return self.names.setdefault(text, len(self.names))
+    def name(self, kind, text):
+        return node(kind, value=self.names.setdefault(text, len(self.names)))
 
     def scope(self):
         self.scopes += 1
         return self.scopes
 
-    # a tree is (kind, value, children)
+    def type(self, e):
+        return [node(TYPE, self.expr(e))] if e else []
+
     def block(self, body):
-        return (0, 0, [t for s in body for t in self.statement(s)])
+        return node(BLOCK, *(t for s in body for t in self.statement(s)))
 
     def target(self, e):
         if isinstance(e, ast.Name):
-            return (8, self.name(e.id), [])
+            return self.name(NAME, e.id)
         if isinstance(e, (ast.Tuple, ast.List)):
-            return (9, 0, [self.target(x) for x in e.elts])
+            return node(TUPLE, *map(self.target, e.elts))
         if isinstance(e, ast.Starred):
             return self.target(e.value)
         if isinstance(e, ast.Subscript):
-            return (10, 0, [self.expr(e.value), self.expr(e.slice)])
-        return (10, 0, [self.expr(e.value)])
+            return node(PLACE, self.expr(e.value), self.expr(e.slice))
+        return node(PLACE, self.expr(e.value))
 
     def params(self, a):
-        out = []
         every = a.posonlyargs + a.args
         defaults = [None] * (len(every) - len(a.defaults)) + a.defaults
         rows = list(zip(every, defaults)) + ([(a.vararg, None)] if a.vararg else [])
         rows += list(zip(a.kwonlyargs, a.kw_defaults)) + ([(a.kwarg, None)] if a.kwarg else [])
-        for p, d in rows:
-            kids = [(8, self.name(p.arg), [])]
-            if p.annotation:
-                kids.append((18, 0, [self.expr(p.annotation)]))
-            if d:
-                kids.append(self.expr(d))
-            out.append((17, 0, kids))
-        return out
+        return [node(PARAM, self.name(NAME, p.arg), *self.type(p.annotation), *([self.expr(d)] if d else [])) for p, d in rows]
 
     def statement(self, s):
-        if isinstance(s, (ast.FunctionDef, ast.AsyncFunctionDef)):
-            n = self.scope()
-            kids = [(8, self.name(s.name), [])] + self.params(s.args)
-            if s.returns:
-                kids.append((18, 0, [self.expr(s.returns)]))
-            return [(6, n, kids + [self.block(s.body)])]
-        if isinstance(s, ast.Assign):
-            v = self.expr(s.value)
-            return [(2, 0, [self.target(s.targets[0]), v])]
-        if isinstance(s, ast.AnnAssign) and s.value:
-            return [(2, 0, [self.target(s.target), (18, 0, [self.expr(s.annotation)]), self.expr(s.value)])]
-        if isinstance(s, ast.AugAssign):
-            return [(3, 0, [self.target(s.target), self.expr(s.value)])]
-        if isinstance(s, (ast.If, ast.While)):
-            kids = [self.expr(s.test), self.block(s.body)]
-            return [(4, 0, kids + ([self.block(s.orelse)] if s.orelse else []))]
-        if isinstance(s, ast.For):
-            return [(5, 0, [self.target(s.target), self.expr(s.iter), self.block(s.body)])]
-        if isinstance(s, (ast.Import, ast.ImportFrom)):
-            return [(7, 0, [(8, self.name((a.asname or a.name).split('.')[0]), []) for a in s.names])]
-        if isinstance(s, ast.ClassDef):
-            return [self.block(s.body)]
-        if isinstance(s, ast.With):
-            return [self.block(s.body)]
-        if isinstance(s, ast.Try):
-            return [self.block(s.body + [x for h in s.handlers for x in h.body])]
-        value = getattr(s, 'value', None) or getattr(s, 'exc', None) or getattr(s, 'test', None)
-        return [(1, 0, [self.expr(value)] if isinstance(value, ast.expr) else [])]
+        """The nodes of a statement; a class is its body."""
+        match s:
+            case ast.FunctionDef() | ast.AsyncFunctionDef():
+                scope = self.scope()
+                kids = [self.name(NAME, s.name), *self.params(s.args), *self.type(s.returns)]
+                return [node(DEF, *kids, self.block(s.body), value=scope)]
+            case ast.Assign():
+                value = self.expr(s.value)
+                return [node(ASSIGN, self.target(s.targets[0]), value)]
+            case ast.AnnAssign(value=ast.expr()):
+                return [node(ASSIGN, self.target(s.target), *self.type(s.annotation), self.expr(s.value))]
+            case ast.AugAssign():
+                return [node(MODIFY, self.target(s.target), self.expr(s.value))]
+            case ast.If() | ast.While():
+                return [node(IF, self.expr(s.test), self.block(s.body), *([self.block(s.orelse)] if s.orelse else []))]
+            case ast.For():
+                return [node(FOR, self.target(s.target), self.expr(s.iter), self.block(s.body))]
+            case ast.Import() | ast.ImportFrom():
+                return [node(LOAD, *(self.name(NAME, (a.asname or a.name).split(".")[0]) for a in s.names))]
+            case ast.ClassDef() | ast.With():
+                return [self.block(s.body)]
+            case ast.Try():
+                return [self.block(s.body + [x for h in s.handlers for x in h.body])]
+        value = getattr(s, "value", None) or getattr(s, "exc", None) or getattr(s, "test", None)
+        return [node(PLAIN, *([self.expr(value)] if isinstance(value, ast.expr) else []))]
 
     def expr(self, e):
-        if isinstance(e, ast.Name):
-            return (11, self.name(e.id), [])
-        if isinstance(e, ast.Lambda):
-            n = self.scope()
-            return (12, n, self.params(e.args) + [self.expr(e.body)])
-        if isinstance(e, (ast.ListComp, ast.SetComp, ast.GeneratorExp, ast.DictComp)):
-            kids = []
-            for g in e.generators:
-                kids.append((15, 0, [self.target(g.target), self.expr(g.iter)]))
-                kids += [(16, 0, [self.expr(x)]) for x in g.ifs]
-            parts = [e.key, e.value] if isinstance(e, ast.DictComp) else [e.elt]
-            return (13, 0, kids + [self.expr(x) for x in parts])
+        match e:
+            case ast.Name():
+                return self.name(IDENT, e.id)
+            case ast.Lambda():
+                scope = self.scope()
+                return node(LAMBDA, *self.params(e.args), self.expr(e.body), value=scope)
+            case ast.ListComp() | ast.SetComp() | ast.GeneratorExp() | ast.DictComp():
+                clauses = [clause for g in e.generators for clause in self.clauses(g)]
+                parts = [e.key, e.value] if isinstance(e, ast.DictComp) else [e.elt]
+                return node(COMPR, *clauses, *map(self.expr, parts))
         kids = []
         for child in ast.iter_child_nodes(e):
             if isinstance(child, ast.expr):
                 kids.append(self.expr(child))
             elif isinstance(child, ast.keyword):
                 kids.append(self.expr(child.value))
-        return (14, 0, kids)
+        return node(OTHER, *kids)
+
+    def clauses(self, g):
+        return [node(FOR_CLAUSE, self.target(g.target), self.expr(g.iter)), *(node(IF_CLAUSE, self.expr(x)) for x in g.ifs)]
 
 
-def flat(tree):
-    out = []
-
-    def go(t):
-        i = len(out)
-        out.append(None)
-        for k in t[2]:
-            go(k)
-        out[i] = (t[0], len(out) - i, t[1])
-    go(tree)
-    return out
+def count(root):
+    return sum(1 for _ in preorder(root))
 
 
-def pack(nodes, names, entries=(), globs=()):
-    pool = b''
-    rows = b''
-    for n in names:
-        rows += len(pool).to_bytes(2, 'big') + bytes([len(n)])
-        pool += n
-    head = bytes([1 << 4])
-    for c in (len(nodes), len(names), len(entries), len(globs)):
-        head += c.to_bytes(2, 'big')
-    head += len(pool).to_bytes(3, 'big')
-    body = b''.join(bytes([k << 3]) + s.to_bytes(2, 'big') + v.to_bytes(2, 'big') + i.to_bytes(3, 'big') for i, (k, s, v) in enumerate(nodes))
-    lines = b''.join(n.to_bytes(2, 'big') + i.to_bytes(2, 'big') for i, n in enumerate(entries))
-    return head + body + rows + lines + b''.join(g.to_bytes(2, 'big') for g in globs) + pool
+def numbered(root):
+    """The tree with each node's number as its source offset."""
+    for number, each in enumerate(preorder(root)):
+        each.offset = number
+    return root
 
 
-# the first statements of a script, as many as keep it within `most` nodes; the last few names are globals
 def script(text, most):
-    body = ast.parse(text).body
-    f, kept = File(), []
-    for s in body:
-        g = File()
-        g.names, g.scopes = dict(f.names), f.scopes
-        trees = g.statement(s)
-        if 1 + sum(len(flat(t)) for t in kept + trees) > most or g.scopes > 255:
+    """The first statements of a script, as many as keep it within `most` nodes: the file and its nodes."""
+    kept, converter, size = [], Converter(), 1
+    for s in ast.parse(text).body:
+        longer = copy.deepcopy(converter)
+        nodes = longer.statement(s)
+        size += sum(map(count, nodes))
+        if size > most or longer.scopes > MAX_SCOPES:
             break
-        f, kept = g, kept + trees
-    nodes = flat((0, 0, kept))
-    names = [n.encode() for n in f.names]
-    return pack(nodes, names, [], list(range(len(names) - min(8, len(names)), len(names)))), len(nodes)
+        kept, converter = kept + nodes, longer
+    names = [name.encode() for name in converter.names]
+    last = list(range(max(len(names) - GLOBALS, 0), len(names)))
+    root = numbered(node(BLOCK, *kept))
+    return pack(File(False, root, names, [], last)), count(root)
+
+
+def modules():
+    """The texts of the first modules by name."""
+    for path in sorted(Path(sysconfig.get_paths()["stdlib"]).glob("*.py")):
+        try:
+            yield path.name, path.read_text()
+        except (UnicodeDecodeError, OSError):
+            pass
+
+
+def longest(texts, most):
+    """The script with the most nodes: (file, nodes, module)."""
+    best = b"", 0, ""
+    for name, text in texts:
+        try:
+            data, nodes = script(text, most)
+        except SyntaxError:
+            continue
+        if nodes > best[1] and len(data) <= LONGEST:
+            best = data, nodes, name
+    return best
 
 
 def main():
-    out = sys.argv[1]
-    os.makedirs(out, exist_ok=True)
-    lib = sysconfig.get_paths()['stdlib']
-    texts = []
-    for f in sorted(os.listdir(lib)):
-        if f.endswith('.py'):
-            try:
-                texts.append((f, open(os.path.join(lib, f)).read()))
-            except (UnicodeDecodeError, OSError):
-                pass
-    for most in (8, 100, 500, 800, 1000, 2000):
-        best = (b'', 0, '')
-        for f, t in texts[:60]:
-            try:
-                b, n = script(t, most)
-            except SyntaxError:
-                continue
-            if n > best[1] and len(b) <= 37388:
-                best = (b, n, f)
-        open(f'{out}/real-{most}', 'wb').write(best[0])
-        print(f'real-{most}', best[1], 'nodes from', best[2], file=sys.stderr)
-    names = [b'n%03x_%d' % (i * 2654435761 % 4096, i) for i in range(1024)]
-    nodes = flat((0, 0, [(1, 0, [(11, i, [])]) for i in range(1023)]))
-    open(f'{out}/names-1024', 'wb').write(pack(nodes, names))
-    open(f'{out}/flat-2048', 'wb').write(pack(flat((0, 0, [(1, 0, [])] * 2047)), [b'a']))
+    folder = Path(sys.argv[1])
+    folder.mkdir(parents=True, exist_ok=True)
+    texts = list(modules())[:LOOKED_AT]
+    for most in SIZES:
+        data, nodes, name = longest(texts, most)
+        (folder / f"real-{most}").write_bytes(data)
+        print(f"real-{most}", nodes, "nodes from", name, file=sys.stderr)
+    names = [b"n%03x_%d" % (i * 2654435761 % 4096, i) for i in range(MAX_NAMES)]
+    reads = node(BLOCK, *(node(PLAIN, node(IDENT, value=i)) for i in range(MAX_NAMES - 1)))
+    (folder / f"names-{MAX_NAMES}").write_bytes(pack(File(False, numbered(reads), names)))
+    flat = node(BLOCK, *(node(PLAIN) for _ in range(MAX_NODES - 1)))
+    (folder / f"flat-{MAX_NODES}").write_bytes(pack(File(False, numbered(flat), [b"a"])))
 
 
-main()
+if __name__ == "__main__":
+    main()

@@ -1,5 +1,5 @@
 #!/usr/bin/env python3
-"""Writes the files of tests/listed, tests/judged and samples into a folder, for the fuzzer to start from: seeds.py FOLDER."""
+"""Writes the files of tests/fixed/listed, tests/fixed/judged and samples into a folder, for the fuzzer to start from: seeds.py FOLDER."""
 
 import sys
 from pathlib import Path
@@ -8,7 +8,7 @@ TOP = Path(__file__).resolve().parent.parent
 
 
 def listed():
-    data = (TOP / "tests/listed/files.bin").read_bytes()
+    data = (TOP / "tests/fixed/listed/files.bin").read_bytes()
     while data:
         length = int.from_bytes(data[:4], "big")
         yield data[4:4 + length]
@@ -16,7 +16,7 @@ def listed():
 
 
 def judged():
-    data = (TOP / "tests/judged/cases.bin").read_bytes()[4:]
+    data = (TOP / "tests/fixed/judged/cases.bin").read_bytes()[4:]
     while data:
         length = int.from_bytes(data[1:5], "big")
         yield data[5:5 + length]

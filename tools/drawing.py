@@ -12,9 +12,9 @@ from starlark_tree import convert
 TOP = Path(__file__).resolve().parent.parent
 sys.path.append(str(TOP / "tests"))
 
-import mirror  # noqa: E402
-from generate import FILES  # noqa: E402
-from second_judge import judge  # noqa: E402, F401
+from files.generate import FILES  # noqa: E402
+from readings import mirror  # noqa: E402
+from readings.second_judge import judge  # noqa: E402, F401
 
 accepted = FILES["accepted"]
 

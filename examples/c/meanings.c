@@ -1,5 +1,5 @@
 /* Builds the node file of `def f(a): return lambda b: a + b + _k`, resolves it, and says what each Ident means.
- * tests/c-example builds and runs this. */
+ * tests/library/c-example builds and runs this. */
 #include <stdio.h>
 
 #include "vaibmusan.h"

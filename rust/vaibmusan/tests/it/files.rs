@@ -10,9 +10,9 @@ fn number(bytes: &[u8]) -> usize {
     bytes.iter().fold(0, |n, &b| n << 8 | usize::from(b))
 }
 
-/// tests/listed: files with their listings.
+/// tests/fixed/listed: files with their listings.
 pub fn listed() -> Vec<(Vec<u8>, Vec<u8>)> {
-    let (files, listings) = (bytes("tests/listed/files.bin"), bytes("tests/listed/listings.txt"));
+    let (files, listings) = (bytes("tests/fixed/listed/files.bin"), bytes("tests/fixed/listed/listings.txt"));
     let (mut files, mut listings) = (&files[..], &listings[..]);
     let mut all = Vec::new();
     while !files.is_empty() {
@@ -29,9 +29,9 @@ pub fn listed() -> Vec<(Vec<u8>, Vec<u8>)> {
     all
 }
 
-/// tests/judged: files with the number that judging must give.
+/// tests/fixed/judged: files with the number that judging must give.
 pub fn judged() -> Vec<(u64, Vec<u8>)> {
-    let cases = bytes("tests/judged/cases.bin");
+    let cases = bytes("tests/fixed/judged/cases.bin");
     let mut rest = &cases[4..];
     let mut all = Vec::new();
     while !rest.is_empty() {

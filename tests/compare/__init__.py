@@ -1,0 +1,1 @@
+"""Programs compared on the same files."""

@@ -1,0 +1,1 @@
+"""Fixed files with their answers."""

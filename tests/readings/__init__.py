@@ -1,0 +1,1 @@
+"""Two readings of document 01."""
