@@ -7,9 +7,11 @@ pub mod Chains
 pub mod Count
 pub mod Declared
 pub mod Every
+pub mod Filled
 pub mod Fine
 pub mod Induct
 pub mod Kinds
+pub mod Labels
 pub mod Last
 pub mod Lead
 pub mod Least
