@@ -69,7 +69,7 @@ def listing(reading, r, full):
 
 
 def answer(data, full=False, check=False):
-    """The listing of a byte string; `check` holds each Ident's answer against its meaning."""
+    """The listing of a byte string; `check` holds Idents against their meanings, Names against their blocks."""
     number, reading = second_judge.judged(data)
     if number == 0:
         F = file_of(reading)
@@ -90,7 +90,8 @@ def main():
     parser.add_argument("--full", action="store_true",
                         help="add `N node M|L slot binding` for each Name and `T scope name` for each slot made")
     parser.add_argument("--check", action="store_true",
-                        help="also compare each Ident's answer with its meaning, and follow its copies")
+                        help="also compare each Ident's answer with its meaning, each Name's binding with its block, "
+                        "and follow the copies")
     options = parser.parse_args()
     if options.batch:
         stream.write(sys.stdout.buffer,
