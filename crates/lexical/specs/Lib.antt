@@ -18,6 +18,7 @@ pub mod Follow
 pub mod Records
 -- Statements: the words of the theorems, the theorems, the proved examples.
 pub mod Claims
+pub mod Blocks
 pub mod Filled
 pub mod Schemes
 pub mod Labels

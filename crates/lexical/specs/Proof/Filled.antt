@@ -1,20 +1,18 @@
 -- Slots and copies: a binding's own slot is filled by no copy, any other by one at most; following stops at an unfilled slot; every local that an Ident means has a slot there.
 use mathlib.Core.Path.{_≡_, refl, sym, _∙_, ap, subst}
-use mathlib.Core.Logic.{_⊎_, inl, inr}
+use mathlib.Core.Logic.{inl, inr}
 use mathlib.Core.List.{List, [], _∷_}
 use mathlib.Core.Bool.{_&&_, Bool, true, false, cond}
 use mathlib.Core.Option.{none, some}
-use Prim.Native.Nat.{ℕ, zero, suc, _<_}
-use native.Mathlib.Omega.{arith}
+use Prim.Native.Nat.{ℕ, zero, suc}
 use lib.Dec.{eqb}
 use lib.ListN.{getElem?}
 use Rattle.lexical.specs.Lists.{picked, first, eqb-self, eqb-true, none-some, Opened, absent, present, opened}
 use Rattle.lexical.specs.Places.{In, Distinct, first-no, mapO-none}
-use Rattle.lexical.specs.Tree.{top, isFn, Way}
+use Rattle.lexical.specs.Tree.{top, isFn}
 use Rattle.lexical.specs.Module.{File, outerOf}
-use Rattle.lexical.specs.Meaning.{Around, Site, deeper, scopesOf, reach, declared, meaning, Meaning}
-use Rattle.lexical.specs.State.{Binding, Copy, Event, Found, St}
-use Rattle.lexical.specs.Block.{fresh}
+use Rattle.lexical.specs.Meaning.{Around, Site, deeper, scopesOf, reach, declared, meaning}
+use Rattle.lexical.specs.State.{Binding, Copy, Event, Found}
 use Rattle.lexical.specs.Third.{hand, resolved}
 use Rattle.lexical.specs.Follow.{copied, copyTo, fromIn, valueIn, followBy, follow}
 use Rattle.lexical.specs.Claims.{Scoped, sitesOf, seen, view, told}
@@ -24,7 +22,7 @@ use Rattle.lexical.specs.Code.Below.{lead-top, copied-in, not-twice, non
 use Rattle.lexical.specs.Proof.Brought.{Between}
 use Rattle.lexical.specs.Proof.Chains.{Led, LedFound, Needs, needing}
 use Rattle.lexical.specs.Proof.Last.{last, around-head}
-use Rattle.lexical.specs.Proof.Lead.{Lead, LeadBy, follow-lead}
+use Rattle.lexical.specs.Proof.Lead.{Lead, follow-lead}
 use Rattle.lexical.specs.Proof.Outcome.{event-of, scopes-of, name-of, meaning-of, means-local, means-refused, means-outside}
 use Rattle.lexical.specs.Proof.Slots.{both-true}
 
