@@ -1,13 +1,15 @@
 """What a name means, outward over the node tree: no slots, no copies, no states.
 
-The first part follows specs/Meaning of crate `lexical`, under the same names. The second
-holds a resolved file against it: each Ident's answer is what its meaning says, following
-copies from it ends at the binding's own slot, and nothing is copied that no Ident needs.
+The first part follows specs/Meaning and specs/Blocks of crate `lexical`, under the same
+names. The second holds a resolved file against it: each Ident's answer is what its meaning
+says, following copies from it ends at the binding's own slot, and nothing is copied that no
+Ident needs; each Name's binding is the one of its block, with every field that the block
+gives it.
 """
 
 from typing import NamedTuple
 
-from readings.lexical import Kind, Way, outerOf, targets, way
+from readings.lexical import Kind, Pick, Var, Way, collect, outerOf, pick, targets, unmarked, way
 
 
 class Around(NamedTuple):
@@ -71,13 +73,40 @@ def meaning(out, site):
     return (Kind.refused if inType(site.above) else Kind.local), d
 
 
-def sites(N, forest, w, s, ts, up):
-    """The Idents among the children of a node, in node order; `up` is around that node."""
+def sites(N, forest, w, s, ts, up, wanted):
+    """The nodes of a wanted kind among the children of a node, in node order; `up` is around that node."""
     for i, x in enumerate(forest):
         here = (Around(w, s, ts, i == 0, i == len(forest) - 1),) + up
-        if way(x.kind) is Way.look:
+        if wanted(x.kind):
             yield Site(x.at, x.value, here)
-        yield from sites(N, x.kids, way(x.kind), x.value, targets(N, x.kind, x.kids), here)
+        yield from sites(N, x.kids, way(x.kind), x.value, targets(N, x.kind, x.kids), here, wanted)
+
+
+def blockAround(above):
+    """The innermost Def, Lambda or Compr around a place: the scope that owns its variables, its targets. None: the
+    module."""
+    for i, a in enumerate(above):
+        if a.way in (Way.fn, Way.compr):
+            return ownerOf(a, above[i + 1:]), a.targets
+    return None
+
+
+def blockOf(above):
+    """A Name's block: a Def's own name, its first child, belongs to the block around the Def."""
+    own = above[0].way is Way.fn and above[0].first
+    return blockAround(above[1:] if own else above)
+
+
+def made(entry, ts, n):
+    """The variable that a module entry, if there is one, and a block's targets make of a name."""
+    mine = [t for t in ts if t.name == n]
+    return Var(
+        name=n,
+        source=65535 if entry else mine[0].node,
+        entry=entry is not None,
+        public=bool(entry and entry.public) or any(t.public for t in mine),
+        any=(entry is not None) + len(mine) >= 2 or bool(mine) and mine[0].any,
+    )
 
 
 def follow(incoming, scopes, slot):
@@ -91,12 +120,43 @@ def follow(incoming, scopes, slot):
 
 
 def check(F, st):
-    """Fail unless the log of a resolved file answers each Ident by its meaning."""
+    """Fail unless a resolved file answers each Ident by its meaning and each Name by its block."""
+    check_idents(F, st)
+    check_names(F, st)
+    check_copies(st)
+
+
+def check_names(F, st):
+    rows = {x.node: x.of for x in st.named}
+    entries = {e.name: e for e in F.entries}
+    root = collect(F.names, unmarked, F.root)
+    for site in sites(F.names, F.root, Way.plain, 0, [], (), lambda k: pick(k) is Pick.name):
+        b, block = rows.pop(site.node), blockOf(site.above)
+        if block is None:
+            assert not b.local and b.var == made(entries.get(site.name), root, site.name), (site, b)
+        else:
+            assert (b.local, b.owner) == (True, block[0]) and b.var == made(None, block[1], site.name), (site, b)
+    assert not rows, f"told, but no Name: {rows}"
+    for i, b in enumerate(st.made):
+        assert b.id == i and b.local == (i >= sum(not c.local for c in st.made)), b
+        if not b.local:
+            assert b.var == made(entries.get(b.var.name), root, b.var.name), b
+            assert b.slot == (F.entries[i].slot if i < len(F.entries) else i), b
+
+
+def check_copies(st):
+    filled = [(c.scope, c.child) for c in st.copies]
+    assert len(filled) == len(set(filled)) and 0 not in {s for s, _ in filled}, "a slot filled twice, or in scope 0"
+    own = [(b.owner, b.slot) for b in st.made if b.local]
+    assert len(own) == len(set(own)) and not set(own) & set(filled), "a binding's own slot, filled or shared"
+
+
+def check_idents(F, st):
     out = outerOf(F)
     events = {e.node: e for e in st.log}
     incoming = {(c.scope, c.child): c.parent for c in reversed(st.copies)}
     needed = set()
-    for site in sites(F.names, F.root, Way.plain, 0, [], ()):
+    for site in sites(F.names, F.root, Way.plain, 0, [], (), lambda k: way(k) is Way.look):
         e = events.pop(site.node)
         kind, what = meaning(out, site)
         assert e.name == site.name and e.scopes == scopesOf(site.above), (e, site)

@@ -79,8 +79,8 @@ class Resolved(NamedTuple):
 
 
 def resolved(data, check=False):
-    """The number of a byte string, and what it is resolved to if that is 0; `check` holds each Ident's answer against
-    its meaning."""
+    """The number of a byte string, and what it is resolved to if that is 0; `check` holds Idents against their
+    meanings, Names against their blocks."""
     number, reading = second_judge.judged(data)
     if number:
         return number, None
@@ -111,7 +111,8 @@ def main():
     parser.add_argument("--full", action="store_true",
                         help="add `N node M|L slot binding` for each Name and `T scope name` for each slot made")
     parser.add_argument("--check", action="store_true",
-                        help="also compare each Ident's answer with its meaning, and follow its copies")
+                        help="also compare each Ident's answer with its meaning, each Name's binding with its block, "
+                        "and follow the copies")
     options = parser.parse_args()
     if options.batch:
         stream.write(sys.stdout.buffer,

@@ -18,8 +18,12 @@ pub mod Follow
 pub mod Records
 -- Statements: the words of the theorems, the theorems, the proved examples.
 pub mod Claims
+pub mod Blocks
+pub mod Filled
 pub mod Schemes
+pub mod Labels
 pub mod Theorems
+pub mod Whole
 pub mod Examples
 pub mod Further
 -- Laws for code, and the proofs.

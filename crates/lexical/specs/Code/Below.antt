@@ -116,7 +116,7 @@ pub answer-below : (F : File) → Scoped F → All (λ (e : Event). OfLocal (Slo
 answer-below F ok j e q = of-local (Led (resolved F) (e .name) (e .scopes)) (SlotFits (resolved F) (e .scopes)) (λ b k l. let h = lead-top (resolved F) (e .scopes) k b (l .leads) in record { below = h .0; holds-it = h .1 }) (e .found) (last F ok .led j e q)
 
 -- a scope has one copy of a binding at most
-copied-in : (s : ℕ) (cs : List Copy) (j : ℕ) (c : Copy) → getElem? cs j ≡ some c → c .scope ≡ s → In (c .id) (copied s cs)
+pub copied-in : (s : ℕ) (cs : List Copy) (j : ℕ) (c : Copy) → getElem? cs j ≡ some c → c .scope ≡ s → In (c .id) (copied s cs)
 unfolding copied picked
 copied-in s [] j c e q = absurd (none-some refl e)
 copied-in s (x ∷ cs) zero c e q = let z : x ≡ c = cc in subst (λ (y : Copy). In (c .id) (cond (eqb (y .scope) s) (y .id ∷ copied s cs) (copied s cs))) (sym z) (rw (q, eqb-self s) (inl refl))
@@ -126,7 +126,7 @@ copied-in s (x ∷ cs) (suc j) c e q = go (eqb (x .scope) s) (copied-in s cs j c
     go true m = inr m
     go false m = m
 
-not-twice : (s : ℕ) (x : Copy) (cs : List Copy) → Distinct (copied s (x ∷ cs)) → x .scope ≡ s → In (x .id) (copied s cs) → ⊥
+pub not-twice : (s : ℕ) (x : Copy) (cs : List Copy) → Distinct (copied s (x ∷ cs)) → x .scope ≡ s → In (x .id) (copied s cs) → ⊥
 unfolding copied picked
 not-twice s x cs h q m = go (rw (q, eqb-self s) at h)
   where

@@ -13,10 +13,12 @@ use Rattle.lexical.specs.Places.{In, Distinct}
 use Rattle.lexical.specs.Tree.{params, isFn, Forest, way, scopesIn, paramsIn}
 use Rattle.lexical.specs.Module.{File}
 use Rattle.lexical.specs.State.{Slot}
-use Rattle.lexical.specs.Block.{freshIn}
-use Rattle.lexical.specs.Records.{paramsOf, scopeRows}
-use Rattle.lexical.specs.Claims.{Scoped}
+use Rattle.lexical.specs.Block.{freshIn, fresh}
+use Rattle.lexical.specs.Third.{resolved}
+use Rattle.lexical.specs.Records.{records, paramsOf, scopeRows}
+use Rattle.lexical.specs.Claims.{Once, Scoped}
 use Rattle.lexical.specs.Code.Adds.{scopeRows-at, scopeRows-length}
+use Rattle.lexical.specs.Code.Scopes.{once-scoped}
 use Rattle.lexical.specs.Proof.Listed.{listed-map}
 
 -- they are listed in the order of the scope numbers
@@ -58,3 +60,12 @@ pub scope-row : (F : File) → Scoped F → (rs : List Slot) (j : ℕ) (p : ℕ 
 unfolding paramsOf
 scope-row F ok rs j p e h = scopeRows-at 0 ((0, 0) ∷ paramsIn (F .root)) (paramsIn (F .root)) rs (p .0) (omega (arith, scopes-length F rs, scopeRows-length 0 ((0, 0) ∷ paramsIn (F .root)) (paramsIn (F .root)) rs))
     ∙ (let z : 0 + p .0 ≡ p .0 = omega arith in rw (z, params-found F ok j p e) refl)
+
+-- the records themselves: each function's at its number, the module's at 0
+pub scope-told : (F : File) → Once (scopesIn (F .root)) → (j : ℕ) (p : ℕ × ℕ) → getElem? (paramsIn (F .root)) j ≡ some p → getElem? (records F .scopes) (p .0) ≡ some (p .1 ∷ fresh (p .0) (resolved F) ∷ [])
+unfolding records
+scope-told F o j p e = scope-row F (once-scoped F o) (resolved F .slots) j p e (o .high (p .0) (subst (In (p .0)) (params-keys (F .root)) (in-keys (paramsIn (F .root)) j p e)))
+
+pub module-scope : (F : File) → Scoped F → getElem? (records F .scopes) 0 ≡ some (0 ∷ fresh 0 (resolved F) ∷ [])
+unfolding records scopeRows paramsOf
+module-scope F ok = rw (params-module F ok) refl

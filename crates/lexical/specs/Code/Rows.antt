@@ -27,7 +27,7 @@ use Rattle.lexical.specs.Proof.Last.{told-all}
 use Rattle.lexical.specs.Proof.Nodes.{idents-all}
 
 -- a target's name is declared among its block's targets
-declares-has : (ts : List Target) (j : ℕ) (t : Target) → getElem? ts j ≡ some t → declares (t .name) ts ≡ none → ⊥
+pub declares-has : (ts : List Target) (j : ℕ) (t : Target) → getElem? ts j ≡ some t → declares (t .name) ts ≡ none → ⊥
 unfolding declares
 declares-has ts j t e n = first-has (λ (x : Target). eqb (x .name) (t .name)) ts j t e (eqb-self (t .name)) (empty-of _ n)
   where

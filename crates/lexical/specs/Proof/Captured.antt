@@ -59,7 +59,7 @@ total-two u (x ∷ xs) zero (suc j) a b e q l = let z : x ≡ a = cc in omega (a
 total-two u (x ∷ xs) (suc i) (suc j) a b e q l = omega (arith, total-two u xs i j a b e q (omega arith))
 
 -- where the weights come to 1 at most, only one element weighs 1
-total-one : {A : Type 0} (u : A → ℕ) (xs : List A) (i j : ℕ) (a b : A) → total u xs ≤ 1 → getElem? xs i ≡ some a → getElem? xs j ≡ some b → u a ≡ 1 → u b ≡ 1 → i ≡ j
+pub total-one : {A : Type 0} (u : A → ℕ) (xs : List A) (i j : ℕ) (a b : A) → total u xs ≤ 1 → getElem? xs i ≡ some a → getElem? xs j ≡ some b → u a ≡ 1 → u b ≡ 1 → i ≡ j
 total-one u xs i j a b most e q p r = go (decLt i j) (decLt j i)
   where
     go : Dec (i < j) → Dec (j < i) → i ≡ j

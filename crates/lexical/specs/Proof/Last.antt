@@ -27,7 +27,7 @@ use Rattle.lexical.specs.Proof.Declared.{RowOk, Passed, ChainOk, declare
 use Rattle.lexical.specs.Proof.Fine.{Fine}
 use Rattle.lexical.specs.Proof.Induct.{AllFn, Good, allFn-map, allFn-both}
 use Rattle.lexical.specs.Proof.Lead.{follow-lead}
-use Rattle.lexical.specs.Proof.Links.{Link, links, chainIn, chainAt, keys-links, covers-self, no-link, linked}
+use Rattle.lexical.specs.Proof.Links.{Link, links, chainIn, chainAt, chain-head, link-heads, keys-links, covers-self, no-link, linked}
 use Rattle.lexical.specs.Proof.Means.{J1, Named1, means, sourceIn, homeIn, source-merge, names-of}
 use Rattle.lexical.specs.Proof.Modules.{module-numbers, module-place}
 
@@ -64,6 +64,10 @@ module _ (F : File) (ok : Scoped F) where
   pub around-0 : around 0 ≡ 0 ∷ []
   unfolding around T chainIn chainAt
   around-0 = ap (chainAt 0) (no-link 0 T (λ m. ok .positive (subst (In 0) (keys-links (F .root) plain 0 (0 ∷ [])) m)))
+
+  pub around-head : (t : ℕ) → (ss : List ℕ) × (around t ≡ t ∷ ss)
+  unfolding around T
+  around-head t = chain-head T (link-heads (F .root) plain 0 (0 ∷ [])) t
 
   chained : AllFn (F .names) (ChainOk around) (F .root) plain 0 0
   unfolding around T

@@ -55,7 +55,7 @@ pairs-count : (t : ℕ) (cs : List Copy) → length (pairs t cs) ≡ count (λ (
 unfolding pairs
 pairs-count t cs = picked-length (λ (c : Copy). eqb (c .scope) t) (λ c. (c .parent, c .child)) cs
 
-from-pairs : (s k p : ℕ) (cs : List Copy) → fromIn s k cs ≡ some p → Copies p k (pairs s cs)
+pub from-pairs : (s k p : ℕ) (cs : List Copy) → fromIn s k cs ≡ some p → Copies p k (pairs s cs)
 unfolding fromIn first mapO pairs picked
 from-pairs s k p [] e = absurd (none-some refl e)
 from-pairs s k p (c ∷ cs) e = go (tested (copyTo s k c)) e (λ z. from-pairs s k p cs z)

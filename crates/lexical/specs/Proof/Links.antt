@@ -6,8 +6,8 @@ use mathlib.Core.Bool.{_&&_, cond, Bool, true, false}
 use mathlib.Core.Option.{Option, none, some}
 use Prim.Native.Nat.{ℕ}
 use lib.Dec.{eqb}
-use Rattle.lexical.specs.Lists.{either, If, first, eqb-self, eqb-not}
-use Rattle.lexical.specs.Places.{In, Distinct}
+use Rattle.lexical.specs.Lists.{either, If, first, eqb-self, eqb-not, eqb-true, Opened, absent, present, opened}
+use Rattle.lexical.specs.Places.{In, Distinct, All, all-none, all-cons, all-append, first-at}
 use Rattle.lexical.specs.Tree.{when, listed, isFn, Forest, nil, node, empty, Way, way, scopesIn}
 use Rattle.lexical.specs.Binders.{Names, Target, targets}
 use Rattle.lexical.specs.Meaning.{deeper}
@@ -70,6 +70,26 @@ pub no-link : (t : ℕ) (T : List Link) → (In t (keys T) → ⊥) → first (l
 unfolding first
 no-link t [] n = refl
 no-link t (x ∷ T) n = rw (eqb-not (x .scope) t (λ e. n (inl (sym e)))) (no-link t T (λ m. n (inr m)))
+
+-- a scope's chain begins with the scope
+own-head : (w : Way) (s : ℕ) (ch : List ℕ) → All (λ (l : Link). (ss : List ℕ) × (l .chain ≡ l .scope ∷ ss)) (ownLink w s ch)
+unfolding ownLink when
+own-head w s ch = either (isFn w) (λ b. All (λ (l : Link). (ss : List ℕ) × (l .chain ≡ l .scope ∷ ss)) (when b (record { scope = s; chain = s ∷ ch })))
+    (all-cons _ (record { scope = s; chain = s ∷ ch }) [] (ch, refl) (all-none _)) (all-none _)
+
+pub link-heads : (f : Forest) (w : Way) (s : ℕ) (ch : List ℕ) → All (λ (l : Link). (ss : List ℕ) × (l .chain ≡ l .scope ∷ ss)) (links f w s ch)
+unfolding links
+link-heads nil w s ch = all-none _
+link-heads (node at k v kids rest) w s ch = all-append _ (ownLink (way k) v (deeper w (empty rest) s ch)) _ (own-head (way k) v (deeper w (empty rest) s ch))
+    (all-append _ (links kids (way k) v (deeper w (empty rest) s ch)) _ (link-heads kids (way k) v (deeper w (empty rest) s ch)) (link-heads rest w s ch))
+
+pub chain-head : (T : List Link) → All (λ (l : Link). (ss : List ℕ) × (l .chain ≡ l .scope ∷ ss)) T → (t : ℕ) → (ss : List ℕ) × (chainIn T t ≡ t ∷ ss)
+unfolding chainIn
+chain-head T h t = go (opened (first (linkOf t) T))
+  where
+    go : Opened (first (linkOf t) T) → (ss : List ℕ) × (chainAt t (first (linkOf t) T) ≡ t ∷ ss)
+    go (absent e) = ([], rw e (unfold chainAt in refl))
+    go (present l e) = let r = first-at (linkOf t) T l e in let p = h (r .0) l (r .1) in (p .0, rw e (unfold chainAt in (p .1 ∙ ap (λ x. x ∷ p .0) (eqb-true (l .scope) t (r .2)))))
 
 module _ (N : Names) (T : List Link) where
   abbrev Linked : ℕ → ℕ → List Target → Type 0

@@ -48,7 +48,7 @@ all-here : (P : Site → Type 0) (w : Way) (at n : ℕ) (up : List Around) → P
 unfolding siteHere when
 all-here P w at n up h = either (isLook w) (λ b. All P (when b (ident (record { node = at; name = n; above = up })))) (h, tt) tt
 
-no-ancestors : (N : Names) (i : ℕ) (f : Forest) (w : Way) (s : ℕ) (ts : List Target) (b : Bool) (up : List Around) → (In i (nodesIn f) → ⊥) → ancestors N i f w s ts b up ≡ none
+pub no-ancestors : (N : Names) (i : ℕ) (f : Forest) (w : Way) (s : ℕ) (ts : List Target) (b : Bool) (up : List Around) → (In i (nodesIn f) → ⊥) → ancestors N i f w s ts b up ≡ none
 unfolding ancestors nodesIn listed when orElse
 no-ancestors N i nil w s ts b up n = refl
 no-ancestors N i (node at k v kids rest) w s ts b up n =

@@ -49,7 +49,7 @@ either-way : {A B C : Type 0} → A ⊎ B → (B → C) → A ⊎ C
 either-way (inl a) h = inl a
 either-way (inr b) h = inr (h b)
 
-among : (is : List Item) (ks : List ℕ) → matches is ks ≡ true → (k : ℕ) → In k ks → Among is k
+pub among : (is : List Item) (ks : List ℕ) → matches is ks ≡ true → (k : ℕ) → In k ks → Among is k
 unfolding matches isEmpty
 among [] (x ∷ ks) e k m = let z : _≡_ {A = ℕ} 0 1 = cc in omega arith
 among (one lo hi ∷ is) ks e k m = either-way (dropped-one lo hi k ks m) (λ z. among is (dropOne lo hi ks) (both-true (headIn lo hi ks) _ e .1) k z)
