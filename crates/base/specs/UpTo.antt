@@ -54,6 +54,13 @@ module _ {A : Type 0} where
   upTo-snoc f zero = refl
   upTo-snoc f (suc n) = ap (λ (l : List A). f 0 ∷ l) (upTo-snoc (λ k. f (suc k)) n)
 
+  -- its front
+  pub upTo-front : (f : ℕ → A) (k n : ℕ) → k ≤ n → (ys : List A) × (upTo f n ≡ upTo f k ++ ys)
+  unfolding upTo
+  upTo-front f zero n h = (upTo f n, refl)
+  upTo-front f (suc k) zero h = absurd (omega arith)
+  upTo-front f (suc k) (suc n) h = let r = upTo-front (λ k. f (suc k)) k n (omega arith) in (r .0, ap (λ (l : List A). f 0 ∷ l) (r .1))
+
   pub upTo-length : (f : ℕ → A) (n : ℕ) → length (upTo f n) ≡ n
   unfolding upTo
   upTo-length f zero = refl

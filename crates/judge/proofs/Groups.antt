@@ -3,13 +3,16 @@ use Prim.Native.Nat.{ℕ}
 use mathlib.Core.Path.{_≡_}
 use mathlib.Core.List.{List, _++_}
 use Rattle.base.specs.First.{First, NoneHolds, none-at, first-none, first-front, first-after}
-use Rattle.judge.specs.Header.{HeaderOk, header-ok}
-use Rattle.judge.specs.Inside.Shaped.{Shaped}
-use Rattle.judge.specs.Cond.{headerRows, listRows, shapeRows, scopeRows, Judged}
+use Rattle.header.specs.Header.{headerRows, HeaderOk, header-ok}
+use Rattle.names.specs.Rows.{nameRows}
+use Rattle.shape.specs.Rows.{shapeRows}
+use Rattle.scoping.specs.Rows.{scopeRows}
+use Rattle.scoping.specs.Shaped.{Shaped}
+use Rattle.judge.specs.Cond.{Judged}
 
 module _ {bs : List ℕ} {h : ℕ} (header : First (headerRows bs) h) where
   pub by-header : (h ≡ 0 → ⊥) → Judged bs h
-  by-header z = first-front (headerRows bs) (listRows bs ++ (shapeRows bs ++ scopeRows bs)) z header
+  by-header z = first-front (headerRows bs) (nameRows bs ++ (shapeRows bs ++ scopeRows bs)) z header
 
   module _ (h0 : h ≡ 0) where
     no-header : NoneHolds (headerRows bs)
@@ -18,16 +21,16 @@ module _ {bs : List ℕ} {h : ℕ} (header : First (headerRows bs) h) where
     pub header-left : HeaderOk bs
     header-left = let n = none-at (headerRows bs) no-header in header-ok bs (n 2) (n 3) (n 4)
 
-    module _ {l : ℕ} (lists : First (listRows bs) l) where
-      pub by-lists : (l ≡ 0 → ⊥) → Judged bs l
-      by-lists z = first-after (headerRows bs) (listRows bs ++ (shapeRows bs ++ scopeRows bs)) l no-header (first-front (listRows bs) (shapeRows bs ++ scopeRows bs) z lists)
+    module _ {l : ℕ} (names : First (nameRows bs) l) where
+      pub by-names : (l ≡ 0 → ⊥) → Judged bs l
+      by-names z = first-after (headerRows bs) (nameRows bs ++ (shapeRows bs ++ scopeRows bs)) l no-header (first-front (nameRows bs) (shapeRows bs ++ scopeRows bs) z names)
 
       module _ (l0 : l ≡ 0) {s : ℕ} (shape : First (shapeRows bs) s) where
-        after-lists : (r : ℕ) → First (shapeRows bs ++ scopeRows bs) r → Judged bs r
-        after-lists r f = first-after (headerRows bs) (listRows bs ++ (shapeRows bs ++ scopeRows bs)) r no-header (first-after (listRows bs) (shapeRows bs ++ scopeRows bs) r (first-none (listRows bs) l tt l0 lists) f)
+        after-names : (r : ℕ) → First (shapeRows bs ++ scopeRows bs) r → Judged bs r
+        after-names r f = first-after (headerRows bs) (nameRows bs ++ (shapeRows bs ++ scopeRows bs)) r no-header (first-after (nameRows bs) (shapeRows bs ++ scopeRows bs) r (first-none (nameRows bs) l tt l0 names) f)
 
         pub by-shape : (s ≡ 0 → ⊥) → Judged bs s
-        by-shape z = after-lists s (first-front (shapeRows bs) (scopeRows bs) z shape)
+        by-shape z = after-names s (first-front (shapeRows bs) (scopeRows bs) z shape)
 
         module _ (s0 : s ≡ 0) where
           no-shape : NoneHolds (shapeRows bs)
@@ -37,4 +40,4 @@ module _ {bs : List ℕ} {h : ℕ} (header : First (headerRows bs) h) where
           shaped = let n = none-at (shapeRows bs) no-shape in record { header = header-left; nodes = n 7; children = n 8 }
 
           pub by-scopes : {r : ℕ} → First (scopeRows bs) r → Judged bs r
-          by-scopes {r} f = after-lists r (first-after (shapeRows bs) (scopeRows bs) r no-shape f)
+          by-scopes {r} f = after-names r (first-after (shapeRows bs) (scopeRows bs) r no-shape f)

@@ -1,17 +1,1 @@
-pub mod Marks
-pub mod Lines
-pub mod Chains
-pub mod Pass
-pub mod Fitting
-pub mod Values
-pub mod Rows
-pub mod Codes
-pub mod Filling
-pub mod Here
-pub mod Deep
-pub mod Noting
-pub mod Naming
-pub mod Cells
-pub mod Known
-pub mod Answers
 pub mod Groups

@@ -8,14 +8,14 @@ use Rattle.lexical.specs.Places.{In, Distinct}
 use Rattle.lexical.specs.Tree.{Forest, nil, node, scopesIn}
 use Rattle.lexical.specs.Table.{allowed, kinds, paramNames}
 use Rattle.nodefile.specs.Layout.{nameCount, nodesOf, namesOf, poolOf}
+use Rattle.nodefile.specs.FileOf.{entryNames, globalNames}
 use Rattle.nodefile.specs.Reads.{Reads}
 use Rattle.nodefile.specs.Order.{Spot}
-use Rattle.judge.specs.Header.{HeaderOk}
-use Rattle.judge.specs.Names.{NamesOk}
-use Rattle.judge.specs.Lists.{entryNames, globalNames}
-use Rattle.judge.specs.Nodes.{hasName, hasScope}
+use Rattle.header.specs.Header.{HeaderOk}
+use Rattle.names.specs.Names.{NamesOk}
+use Rattle.shape.specs.Nodes.{hasName, hasScope}
 use Rattle.nodefile.specs.Height.{height}
-use Rattle.judge.specs.Scopes.{EachOnce}
+use Rattle.scoping.specs.Scopes.{EachOnce}
 
 -- a list of names: each is one of the file's, and none stands twice
 pub record ListOk (names : ℕ) (xs : List ℕ) : Type 0 where

@@ -1,13 +1,4 @@
-pub mod Header
-pub mod Names
-pub mod Lists
-pub mod Nodes
-pub mod Children
-pub mod Depth
-pub mod Scopes
-pub mod Params
 pub mod Cond
-pub mod Inside
 pub mod Accepted
 pub mod Laws
 pub mod Spelling

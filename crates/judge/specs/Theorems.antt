@@ -22,18 +22,19 @@ use Rattle.nodefile.specs.Reads.{Reads, reads-kids, reads-length, reads-root}
 use Rattle.nodefile.specs.Order.{Spot, spotsIn, spots-count, spot-at}
 use Rattle.nodefile.specs.Trees.{tree}
 use Rattle.nodefile.specs.FileOf.{entryOf, fileOf}
-use Rattle.judge.specs.Header.{HeaderOk, header-ok, unless, unless-not}
-use Rattle.judge.specs.Names.{NamesOk, empty, past-pool, spelled-before}
-use Rattle.judge.specs.Lists.{BadList, no-such-name as not-listed, twice, bad-entry, bad-global}
-use Rattle.judge.specs.Nodes.{at, hasName, hasScope, Sound, sound, no-such-name, stray-value}
-use Rattle.judge.specs.Children.{root-no-statement, other-children}
-use Rattle.judge.specs.Depth.{too-deep}
+use Rattle.base.specs.Says.{unless, unless-not, holds}
+use Rattle.header.specs.Header.{HeaderOk, header-ok}
+use Rattle.names.specs.Names.{NamesOk, empty, past-pool, spelled-before}
+use Rattle.names.specs.Lists.{BadList, no-such-name as not-listed, twice, bad-entry, bad-global}
+use Rattle.shape.specs.Nodes.{at, hasName, hasScope, Sound, sound, no-such-name, stray-value}
+use Rattle.shape.specs.Children.{root-no-statement, other-children}
+use Rattle.scoping.specs.Depth.{too-deep}
 use Rattle.nodefile.specs.Height.{height}
-use Rattle.judge.specs.Scopes.{EachOnce, not-each-once, many-scopes}
-use Rattle.judge.specs.Params.{same-name}
+use Rattle.scoping.specs.Scopes.{EachOnce, not-each-once, many-scopes}
+use Rattle.scoping.specs.Params.{same-name}
 use Rattle.judge.specs.Cond.{judging, Judged}
 use Rattle.judge.specs.Accepted.{ListOk, NodeOk, Each, Root, Accepted}
-use Rattle.judge.specs.Laws.Decided.{holds, distinct-not, each-not}
+use Rattle.judge.specs.Laws.Decided.{distinct-not, each-not}
 use Rattle.judge.specs.Laws.Read.{each-spots, scopes-read, params-read}
 use Rattle.judge.specs.Laws.Front.{front}
 

@@ -12,6 +12,13 @@ use Rattle.nodefile.specs.Lists.{hidden, entryName, entryPublic, entrySl
 abbrev pub entryOf : List ℕ → ℕ → Entry
 entryOf es k = record { name = entryName es k; public = eqb (entryPublic es k) 1; slot = entrySlot es k }
 
+-- the name numbers of the module entries, and of the globals
+abbrev pub entryNames : List ℕ → List ℕ
+entryNames bs = upTo (entryName (entriesOf bs)) (entryCount bs)
+
+abbrev pub globalNames : List ℕ → List ℕ
+globalNames bs = upTo (globalName (globalsOf bs)) (globalCount bs)
+
 abbrev pub nameRules : List ℕ → Names
 nameRules bs = record { hidden = hidden (namesOf bs) (poolOf bs); reexport = eqb (reexport bs) 1 }
 
@@ -20,6 +27,6 @@ fileOf bs root =
     record {
       names = nameRules bs;
       entries = upTo (entryOf (entriesOf bs)) (entryCount bs);
-      globals = upTo (globalName (globalsOf bs)) (globalCount bs);
+      globals = globalNames bs;
       root = root;
     }

@@ -3,6 +3,7 @@ pub mod Layout
 pub mod Lists
 pub mod FileOf
 pub mod Kids
+pub mod Fitting
 pub mod Reads
 pub mod Height
 pub mod Trees

@@ -1,7 +1,5 @@
 -- What is decided, so that "no fault" gives what the fault denies.
 use Prim.Native.Nat.{ℕ}
-use mathlib.Core.Path.{_≡_, refl}
-use mathlib.Core.Bool.{Bool, true, false}
 use mathlib.Core.List.{List, [], _∷_}
 use native.Mathlib.Omega.{arith}
 use lib.ListN.{length}
@@ -9,12 +7,8 @@ use Rattle.lexical.specs.Places.{In, Distinct}
 use Rattle.lexical.specs.Claims.{Once}
 use Rattle.lexical.specs.Proof.Pigeon.{has}
 use Rattle.lexical.specs.Code.Scopes.{once-filled}
-use Rattle.judge.specs.Header.{unless}
-use Rattle.judge.specs.Scopes.{EachOnce}
-
-pub holds : (b : Bool) → (b ≡ false → ⊥) → b ≡ true
-holds true n = refl
-holds false n = absurd (n refl)
+use Rattle.base.specs.Says.{unless}
+use Rattle.scoping.specs.Scopes.{EachOnce}
 
 distinct-dec : (xs : List ℕ) → Dec (Distinct xs)
 distinct-dec [] = yes tt

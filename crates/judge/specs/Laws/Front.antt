@@ -7,7 +7,8 @@ use lib.ListN.{length, take, length-take}
 use Rattle.base.specs.First.{here, later}
 use Rattle.bits.specs.FieldLaws.{field-take}
 use Rattle.nodefile.specs.Layout.{version, headZero, nodeCount, nameCount, entryCount, globalCount, poolBytes}
-use Rattle.judge.specs.Header.{BadHeader, short, other-version, zero-bits-set, BadCounts, no-nodes, many-nodes, many-names, many-entries, many-globals, large-pool, BadLength, other-length, unless}
+use Rattle.base.specs.Says.{unless}
+use Rattle.header.specs.Header.{BadHeader, short, other-version, zero-bits-set, BadCounts, no-nodes, many-nodes, many-names, many-entries, many-globals, large-pool, BadLength, other-length}
 use Rattle.judge.specs.Cond.{Judged}
 
 -- the first 12 bytes say the same

@@ -22,9 +22,9 @@ use Rattle.nodefile.specs.Reads.{Reads, countOf, reads-length, below-length}
 use Rattle.nodefile.specs.Order.{Spot, spotsIn, spots-count, spot-at}
 use Rattle.nodefile.specs.Chosen.{chosen}
 use Rattle.nodefile.specs.Listed.{listed-spots}
-use Rattle.judge.specs.Nodes.{at, hasScope, Sound}
-use Rattle.judge.specs.Scopes.{isScope, number, numbers, scopeNumbers}
-use Rattle.judge.specs.Params.{paramName, ParamNames, no-params, param, other}
+use Rattle.shape.specs.Nodes.{at, hasScope, Sound}
+use Rattle.scoping.specs.Scopes.{isScope, number, numbers, scopeNumbers}
+use Rattle.scoping.specs.Params.{paramName, ParamNames, no-params, param, other}
 use Rattle.judge.specs.Accepted.{Each}
 
 -- ---- every node

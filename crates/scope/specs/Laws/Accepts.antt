@@ -17,13 +17,13 @@ use Rattle.lexical.specs.Proof.Tabled.{in-range, table-name, table-ident, at-ki
 use Rattle.nodefile.specs.Layout.{nameCount, entryCount, globalCount, nodesOf, entriesOf, globalsOf}
 use Rattle.nodefile.specs.Lists.{entryName, globalName}
 use Rattle.nodefile.specs.Node.{sizeOf}
+use Rattle.nodefile.specs.FileOf.{entryNames, globalNames}
 use Rattle.nodefile.specs.Reads.{Reads, reads-one}
 use Rattle.nodefile.specs.FileLaws.{tree-below}
 use Rattle.store.specs.Valid as store
 use Rattle.store.specs.Valid.{Valid, Some, NameFirst}
 use Rattle.note.specs.Noted.{ListsOk}
 use Rattle.judge.specs.Cond.{Judged}
-use Rattle.judge.specs.Lists.{entryNames, globalNames}
 use Rattle.judge.specs.Accepted.{NodeOk, Each, Accepted}
 use Rattle.judge.specs.Theorems.{accepted, accepted-tabled}
 use Rattle.scope.specs.Ready.{Ready}

@@ -1,9 +1,0 @@
--- What the contracts of the functions inside the crate cite; nothing of it is needed to read what judging answers.
-pub mod Line
-pub mod Chain
-pub mod Node
-pub mod Code
-pub mod Held
-pub mod Found
-pub mod Naming
-pub mod Shaped

@@ -1,0 +1,4 @@
+-- What the contracts of the functions inside the crate cite; nothing of it is needed to read what judging answers.
+pub mod Held
+pub mod Found
+pub mod Naming

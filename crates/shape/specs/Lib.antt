@@ -1,0 +1,4 @@
+pub mod Nodes
+pub mod Children
+pub mod Rows
+pub mod Inside
