@@ -5,7 +5,7 @@
  *
  * What a caller owes, as no proof sees it:
  *   - a pointer leads to so many elements as the length beside it says, and is aligned for its type; only beside
- *     length 0 may it be null;
+ *     length 0 may it be null. A pointer to a struct leads to one, of any contents;
  *   - what is written (pointers without const) overlaps nothing else that is handed over;
  *   - there are 512 KB of stack left (seen: 180 KB in vaib_resolve, 260 KB in vaib_listing).
  * The functions keep nothing between calls, take no memory from the heap, and may run in many threads at once.
