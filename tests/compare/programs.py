@@ -17,6 +17,7 @@ from files import stream
 
 END = b"\xff" * 4
 JOBS = 2  # commands that run at the same time
+VAIB = f"{Path(__file__).resolve().parents[2]}/tools/run vaib"
 
 
 class Batch:

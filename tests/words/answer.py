@@ -1,24 +1,32 @@
 """`vaib answer`: number and counts, then the seven answer buffers of document 01, packed and at their full lengths."""
 
 import struct
+from typing import NamedTuple
 
 from readings import mirror
 
-# Each buffer: how many elements, how a record's fields are packed into one, and the element's format.
-BUFFERS = (
-    (2048, (2, 15, 15), ">I"),                         # nodes: class, slot or global, binding
-    (2304, (16, 16, 1, 1, 1, 1, 1, 15, 12), ">Q"),     # bindings: name, source, five marks, slot, zero
-    (2304, (16, 1, 15), ">I"),                         # module entries: name, public, slot
-    (256, (16, 16), ">I"),                             # scopes: parameter variables, slots
-    (4096, (16, 16), ">I"),                            # slots: scope, name
-    (4096, (8, 12, 12), ">I"),                         # copies: scope, parent slot, child slot
-    (2048, (16, 16), ">I"),                            # errors: node, code
-)
-HEAD = ">8I"
+
+class Kind(NamedTuple):
+    """A buffer: how many elements, the widths of a record's fields, most significant first, an element's format."""
+    length: int
+    widths: tuple
+    form: str
+
+
+BUFFERS = {
+    "nodes": Kind(2048, (2, 15, 15), "I"),                       # class, slot or global, binding
+    "bindings": Kind(2304, (16, 16, 1, 1, 1, 1, 1, 15, 12), "Q"),  # name, source, five marks, slot, zero
+    "module": Kind(2304, (16, 1, 15), "I"),                      # name, public, slot
+    "scopes": Kind(256, (16, 16), "I"),                          # parameter variables, slots
+    "slots": Kind(4096, (16, 16), "I"),                          # scope, name
+    "copies": Kind(4096, (8, 12, 12), "I"),                      # scope, parent slot, child slot
+    "errors": Kind(2048, (16, 16), "I"),                         # node, code
+}
+HEAD = ">8I"  # number, bindings, module entries, slots, copies, errors, 0, 0
 
 
 def element(widths, fields):
-    """Fields packed, most significant first."""
+    """Fields packed into one number."""
     value = 0
     for width, number in zip(widths, fields, strict=True):
         value = value << width | number
@@ -27,13 +35,12 @@ def element(widths, fields):
 
 def buffer(kind, rows):
     """A buffer's bytes: the records from the front, then zeros."""
-    length, widths, form = kind
-    elements = [element(widths, row) for row in rows]
-    return b"".join(struct.pack(form, value) for value in elements + [0] * (length - len(elements)))
+    elements = [element(kind.widths, row) for row in rows]
+    return struct.pack(f">{kind.length}{kind.form}", *elements, *[0] * (kind.length - len(elements)))
 
 
 def packed(counts, tables):
-    return struct.pack(HEAD, *counts) + b"".join(map(buffer, BUFFERS, tables))
+    return struct.pack(HEAD, *counts) + b"".join(map(buffer, BUFFERS.values(), tables))
 
 
 def text(data):
@@ -48,3 +55,24 @@ def text(data):
     tables = [nodes, [(*row, 0) for row in rec.bindings], module, rec.scopes, rec.slots, rec.copies, rec.errors]
     counts = [len(rows) for rows in (rec.bindings, module, rec.slots, rec.copies, rec.errors)]
     return packed((0, *counts, 0, 0), tables)
+
+
+def rows(answer, wanted):
+    """The records of one buffer of such an answer, as rows of fields, zeros behind them too."""
+    at = struct.calcsize(HEAD)
+    for name, kind in BUFFERS.items():
+        form = f">{kind.length}{kind.form}"
+        if name == wanted:
+            zero = (0,) * len(kind.widths)
+            return [fields(kind.widths, value) if value else zero for value in struct.unpack_from(form, answer, at)]
+        at += struct.calcsize(form)
+    raise KeyError(wanted)
+
+
+def fields(widths, value):
+    """The fields of an element."""
+    found = []
+    for width in reversed(widths):
+        found.append(value & (1 << width) - 1)
+        value >>= width
+    return tuple(reversed(found))
