@@ -25,7 +25,7 @@ THEORY = ("lexical",)  # no bytes: its theorems are said again of them
 # words in backquotes that are no definitions: the kit's
 KIT = {"requires", "ensures", "read", "write", "axioms=2", "extern"}
 
-USE = re.compile(r"^(?:ghost )?use Rattle·(\w+?)(?:·specs)?\.specs\.([\w.]+?)(?:\.\{(.*)\}| as (\w+));?$")
+USE = re.compile(r"^(?:ghost |pub )?use Rattle·(\w+?)(?:·specs)?\.specs\.([\w.]+?)(?:\.\{(.*)\}| as (\w+));?$")
 HEAD = re.compile(r"^( *)((?:(?:unfoldable|abbrev|pub) )*)(?:(data|record) )?([^\s:(){}]+)(?: .*?)? ?: ")
 WORDS = re.compile(r"[^\s(){}⟨⟩,;⌜⌝]+")
 
@@ -41,9 +41,9 @@ class Decl(NamedTuple):
 
 
 def words(lines):
-    """The words of some lines, comments left out, `.field` and `alias.name` taken apart too."""
+    """The words of some lines, each also without the marks that may stand at its ends."""
     for line in lines:
-        for word in WORDS.findall(line.split("--")[0] if line.lstrip().startswith("--") else line):
+        for word in WORDS.findall(line):
             yield word
             yield word.strip("_.·λ")
 
@@ -74,7 +74,7 @@ def declarations(text):
             end = next(i for i, line in enumerate(lines) if line.endswith("where")) + 1
             sections.append((indent(lines[0]), lines[:end]))
             lines = lines[end:]
-        lines = [line for line in lines if not line.startswith(("use ", "infix"))]
+        lines = [line for line in lines if not line.startswith(("use ", "pub use ", "infix"))]
         if not lines or not (head := HEAD.match(lines[0])):
             continue
         depth, marks, kind, name = len(head[1]), head[2], head[3], head[4]
@@ -111,9 +111,10 @@ def imports(text):
             crate, file, names, alias = m.groups()
             if alias:
                 found[alias + "."] = (crate, file, None)
-            for name in (names or "").split(","):
-                for spelled in {name.strip(), name.strip().strip("_")}:
-                    found[spelled] = (crate, file, name.strip())
+            for name in names.split(",") if names else ():
+                name, _, here = name.strip().partition(" as ")
+                for spelled in {here or name, (here or name).strip("_")}:
+                    found[spelled] = (crate, file, name)
     return found
 
 
@@ -141,10 +142,7 @@ class Specs:
         else:
             return None
         there = self.file(crate, file)
-        if there is None:
-            return None
-        name = name.strip() if name in there.named else name.strip("_")
-        return (crate, file, there.named[name]) if name in there.named else None
+        return self.resolve(name, there.imports, (crate, file)) if there else None
 
     def decl(self, crate, file, name):
         return self.file(crate, file).decls[name]
