@@ -5,8 +5,8 @@ use mathlib.Core.List.{List, [], _∷_, _++_, append-assoc, append-nil}
 use Rattle.lexical.specs.Tree.{Forest, nil, node, pick, through, shut}
 use Rattle.lexical.specs.Binders.{Names, Marks, Target, target, headTarget, gather, collect}
 use Rattle.lexical.specs.Code.Collect.{inLoop, inLoad, asParam}
-use Rattle.store.specs.Valid.{Valid}
-use Rattle.collect.specs.Parts.{Walk, valid-apart}
+use Rattle.nodefile.specs.Valid.{Valid}
+use Rattle.nodefile.specs.Parts.{Walk, valid-apart}
 
 pub collect-stop : (N : Names) (m : Marks) (ts : List Target) → ts ++ collect N m nil ≡ ts
 unfolding collect

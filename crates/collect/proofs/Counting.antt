@@ -11,7 +11,7 @@ use Rattle.lexical.specs.Lists.{eqb-not}
 use Rattle.lexical.specs.Tree.{Forest, nil, node, empty, after, params}
 use Rattle.nodefile.specs.Node.{kindOf, sizeOf, valueOf}
 use Rattle.nodefile.specs.Reads.{Reads, reads-size, countOf}
-use Rattle.collect.specs.Parts.{Walk, Left, Sibling, left-end, left-split, left-sibling, left-more}
+use Rattle.nodefile.specs.Parts.{Walk, Left, Sibling, left-end, left-split, left-sibling, left-more}
 use Rattle.collect.specs.Declare.{Params}
 
 -- ---- one node

@@ -16,7 +16,7 @@ use Rattle.nodefile.specs.Node.{sizeOf, kindOf, valueOf, below}
 use Rattle.nodefile.specs.Reads.{below-length}
 use Rattle.store.specs.declared.ids.State.{State}
 use Rattle.store.specs.Sections.{Mem}
-use Rattle.collect.specs.Parts.{kids-part, Named, named}
+use Rattle.nodefile.specs.Parts.{kids-part, Named, named}
 use Rattle.collect.specs.Declare.{ownParams, Function, PreFunction, FunctionDone, Here, PreHere, HereDone}
 
 -- ---- what a node adds

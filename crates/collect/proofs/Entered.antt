@@ -17,7 +17,7 @@ use Rattle.store.specs.Sections.{Mem}
 use Rattle.store.specs.Meanings.{Range}
 use Rattle.store.specs.Rel.{World, Rel, R, caps}
 use Rattle.store.specs.Blocks.{localBlock}
-use Rattle.store.specs.Valid.{Valid}
+use Rattle.nodefile.specs.Valid.{Valid}
 use Rattle.target.specs.Target.{BlockIs, marksOf}
 use Rattle.target.specs.Blocks.{over-more}
 use Rattle.target.specs.Whole.{block-range, block-is, block-none, opens, closes}

@@ -18,7 +18,7 @@ use Rattle.lexical.specs.Second.{declareFn, declareHere, declare, keyed, second
 use Rattle.store.specs.declared.ids.State.{State}
 use Rattle.store.specs.Sections.{Mem}
 use Rattle.store.specs.Rel.{R}
-use Rattle.store.specs.Valid.{NodeOk, Valid}
+use Rattle.nodefile.specs.Valid.{NodeOk, Valid}
 use Rattle.collect.specs.Declare.{ownParams, counted, worldOf, Unmet, Here, HereDone}
 use Rattle.collect.proofs.Ordered.{ownScope, Stand, declareAll, paramsAll, scopesAll, ValidAll, stand-more, first-size, first-kind, first-value, first-inside, first-under}
 

@@ -13,7 +13,7 @@ use Rattle.store.specs.Sections.{Mem, Long}
 use Rattle.store.specs.Blocks.{RB}
 use Rattle.target.specs.Target.{marksOf}
 use Rattle.collect.proofs.Collecting.{collecting}
-use Rattle.collect.specs.Parts.{Left, Sibling, left-start, left-end, left-sibling, left-one, left-fine, left-reads, left-more, sibling-length, sibling-size}
+use Rattle.nodefile.specs.Parts.{Left, Sibling, left-start, left-end, left-sibling, left-one, left-fine, left-reads, left-more, sibling-length, sibling-size}
 use Rattle.store.specs.Laws.Lengths.{Kept, long-kept}
 use Rattle.collect.specs.Cycle.{Ghost, Pre, Pre1, Done}
 

@@ -12,8 +12,8 @@ use Rattle.lexical.specs.State.{Row, St}
 use Rattle.lexical.specs.Second.{declare}
 use Rattle.nodefile.specs.Node.{sizeOf, kindOf, valueOf, below}
 use Rattle.nodefile.specs.Reads.{Reads, countOf, reads-none, reads-length, reads-size}
-use Rattle.store.specs.Valid.{Valid}
-use Rattle.collect.specs.Parts.{kind-take, size-take, value-take}
+use Rattle.nodefile.specs.Valid.{Valid}
+use Rattle.nodefile.specs.Parts.{kind-take, size-take, value-take}
 
 -- the part t, whose first node has the number n, holds these forests, one after the other
 abbrev pub Stand : List ℕ → ℕ → List Forest → Type 0

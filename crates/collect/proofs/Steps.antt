@@ -13,7 +13,7 @@ use Rattle.store.specs.declared.ids.Marks.{Marks}
 use Rattle.store.specs.Sections.{Mem}
 use Rattle.store.specs.Blocks.{RB}
 use Rattle.target.specs.Target.{marksOf, Meets, PreTarget, DoneTarget}
-use Rattle.collect.specs.Parts.{alone, One, one, kids-length, Named, named}
+use Rattle.nodefile.specs.Parts.{alone, One, one, kids-length, Named, named}
 use Rattle.collect.proofs.Collecting.{shut-node, name-node, def-node}
 use Rattle.collect.specs.Cycle.{Ghost, Pre, Pre1, Done}
 

@@ -14,7 +14,7 @@ use Rattle.store.specs.declared.ids.Marks.{Marks}
 use Rattle.store.specs.Sections.{Mem, Long}
 use Rattle.store.specs.Rel.{World}
 use Rattle.store.specs.Blocks.{BlockEnv, RB}
-use Rattle.store.specs.Valid.{Valid}
+use Rattle.nodefile.specs.Valid.{Valid}
 use Rattle.target.specs.Target.{BlockIs, marksOf}
 
 -- the part holds a forest, and the block has the targets ts so far

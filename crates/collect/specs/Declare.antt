@@ -24,7 +24,7 @@ use Rattle.store.specs.declared.ids.Marks.{Marks}
 use Rattle.store.specs.Sections.{Mem, Long}
 use Rattle.store.specs.Rel.{World, R}
 use Rattle.store.specs.Blocks.{titles}
-use Rattle.store.specs.Valid.{NodeOk, Valid}
+use Rattle.nodefile.specs.Valid.{NodeOk, Valid}
 
 -- the module's block and a target with nothing around it, as code has them
 abbrev pub moduleIs : Block

@@ -18,7 +18,7 @@ use Rattle.store.specs.Sections.{Mem, mem}
 use Rattle.store.specs.Rel.{Rel, R, caps}
 use Rattle.store.specs.Blocks.{localBlock}
 use Rattle.store.specs.Laws.Lengths.{Kept, long-kept}
-use Rattle.store.specs.Valid.{Some}
+use Rattle.nodefile.specs.Valid.{Some}
 use Rattle.store.specs.Scoping.{Numbered, Closing, Closed}
 use Rattle.target.specs.Whole.{block-is, block-numbered, block-owner, block-range}
 use Rattle.lookup.specs.Enter.{OwnedIn}

@@ -15,8 +15,8 @@ use Rattle.store.specs.declared.ids.State.{State}
 use Rattle.store.specs.Sections.{Mem, Long}
 use Rattle.store.specs.Rel.{R}
 use Rattle.store.specs.Laws.Lengths.{Kept, long-kept}
-use Rattle.store.specs.Valid.{Some}
-use Rattle.collect.specs.Parts.{alone, Split, split, some-long}
+use Rattle.nodefile.specs.Valid.{Some}
+use Rattle.nodefile.specs.Parts.{alone, Split, split, some-long}
 use Rattle.idents.specs.Cycle.{Ghost, Pre, Pre1, PreKind, Done, LastAt}
 use Rattle.idents.proofs.Fine.{Fine, fine-apart}
 use Rattle.idents.proofs.Resolving.{clause-node}

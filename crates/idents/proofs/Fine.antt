@@ -12,8 +12,8 @@ use Rattle.lexical.specs.Places.{In, Distinct, in-left, in-right, distinct-left
 use Rattle.lexical.specs.Tree.{Forest, nil, node, scopesIn, _⊕_, listed}
 use Rattle.lexical.specs.Code.Nodes.{scopes-def, scopes-lambda, scopes-others}
 use Rattle.nodefile.specs.Height.{height}
-use Rattle.store.specs.Valid.{Valid}
-use Rattle.collect.specs.Parts.{valid-apart}
+use Rattle.nodefile.specs.Valid.{Valid}
+use Rattle.nodefile.specs.Parts.{valid-apart}
 
 -- ss: the scopes around
 pub record Fine (ss : List ℕ) (f : Forest) : Type 0 where

@@ -14,7 +14,7 @@ use Rattle.nodefile.specs.Node.{kindOf, valueOf}
 use Rattle.store.specs.declared.ids.State.{State}
 use Rattle.store.specs.Sections.{Mem, mem, Long}
 use Rattle.store.specs.Laws.Lengths.{Kept, long-kept}
-use Rattle.store.specs.Valid.{Some, NameFirst}
+use Rattle.nodefile.specs.Valid.{Some, NameFirst}
 use Rattle.lookup.specs.Enter.{OwnedIn, Entering, Entered, Leaving, Left}
 use Rattle.idents.specs.Cycle.{Ghost, Pre, Pre1, PreDef, Done, DoneAny, Parted, LastAt}
 use Rattle.idents.proofs.Fine.{Fine, fine-front, fine-back, fine-room, fine-new, fine-inside}

@@ -8,7 +8,7 @@ use lib.Seq.{take-append-seam, drop-append-le}
 use Rattle.lexical.specs.Tree.{Forest, nil, node, _⊕_}
 use Rattle.nodefile.specs.Node.{kindOf, sizeOf, valueOf, below, after}
 use Rattle.nodefile.specs.Reads.{Reads, after-length}
-use Rattle.collect.specs.Parts.{kind-take, size-take, value-take, below-take}
+use Rattle.nodefile.specs.Parts.{kind-take, size-take, value-take, below-take}
 
 pub joined-more : (f : Forest) (a k v : ℕ) (kids g : Forest) → f ⊕ node a k v kids g ≡ (f ⊕ node a k v kids nil) ⊕ g
 unfolding _⊕_

@@ -9,8 +9,8 @@ use lib.ListN.{length, take, drop}
 use Rattle.nodefile.specs.Node.{sizeOf, kindOf}
 use Rattle.store.specs.declared.ids.State.{State}
 use Rattle.store.specs.Sections.{Mem}
-use Rattle.store.specs.Valid.{Some}
-use Rattle.collect.specs.Parts.{some-long}
+use Rattle.nodefile.specs.Valid.{Some}
+use Rattle.nodefile.specs.Parts.{some-long}
 use Rattle.idents.specs.Cycle.{Pre1, Done}
 use Rattle.idents.proofs.Steps.{k-start, k-end, any-done, x-one, x-kids-length, x-kids-pre, x-others, x-type}
 use Rattle.idents.proofs.Functions.{name-some}

@@ -12,7 +12,7 @@ use Rattle.lexical.specs.State.{Binding, St, Ctx}
 use Rattle.lexical.specs.Block.{block, called}
 use Rattle.lexical.specs.Third.{lookFound, typed, enter, inner}
 use Rattle.lexical.specs.Code.Visit.{visit, each, each-nil, each-node, each-append, each-one, visit-others, visit-ident, visit-type, visit-forClause, visit-def, visit-lambda, visit-compr}
-use Rattle.collect.specs.Parts.{Walk}
+use Rattle.nodefile.specs.Parts.{Walk}
 use Rattle.idents.proofs.Fine.{Fine, fine-apart}
 
 abbrev pub ctx : List Binding → List ℕ → Bool → Ctx

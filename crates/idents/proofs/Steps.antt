@@ -17,7 +17,7 @@ use Rattle.store.specs.Sections.{Mem, Long}
 use Rattle.store.specs.Rel.{R}
 use Rattle.store.specs.Laws.Lengths.{Kept, long-kept}
 use Rattle.lookup.specs.Lookup.{Ident, IdentDone}
-use Rattle.collect.specs.Parts.{alone, One, one, kids-length, Split, Walk, Left, Sibling, left-start, left-end, left-split, left-sibling, left-one, left-fine, left-reads, left-more, sibling-length, sibling-size}
+use Rattle.nodefile.specs.Parts.{alone, One, one, kids-length, Split, Walk, Left, Sibling, left-start, left-end, left-split, left-sibling, left-one, left-fine, left-reads, left-more, sibling-length, sibling-size}
 use Rattle.idents.specs.Cycle.{Ghost, Pre, Pre1, PreKind, Done, DoneAny, resolvedAt}
 use Rattle.idents.proofs.Fine.{Fine, fine-kids, fine-opened}
 use Rattle.idents.proofs.Joined.{reads-joined}

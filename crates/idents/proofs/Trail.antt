@@ -9,7 +9,7 @@ use lib.Seq.{take-add, drop-drop, length-take-le}
 use Rattle.lexical.specs.Tree.{Forest, nil, node, _⊕_}
 use Rattle.nodefile.specs.Node.{kindOf, sizeOf, valueOf, after}
 use Rattle.nodefile.specs.Reads.{Reads, reads-none}
-use Rattle.collect.specs.Parts.{alone, Split, split, some-long}
+use Rattle.nodefile.specs.Parts.{alone, Split, split, some-long}
 use Rattle.idents.specs.Cycle.{Parted, LastAt}
 use Rattle.idents.proofs.Joined.{joined-more, reads-joined}
 

@@ -16,7 +16,7 @@ use Rattle.nodefile.specs.Height.{height}
 use Rattle.store.specs.declared.ids.State.{State}
 use Rattle.store.specs.Sections.{Mem, Long}
 use Rattle.store.specs.Rel.{World, R}
-use Rattle.store.specs.Valid.{Valid, Some}
+use Rattle.nodefile.specs.Valid.{Valid, Some}
 use Rattle.lookup.specs.Lookup.{Settled}
 use Rattle.lookup.specs.Enter.{OwnedIn}
 

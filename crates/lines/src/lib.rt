@@ -1,10 +1,11 @@
 // The lines of document 01's listing, a function for each kind; each takes its record as it stands in its buffer.
-pub mod node;
 mod pieces;
 
 ghost use mathlib.Core.List.{[], _∷_};
 ghost use Rattle.text.specs.Window.{Puts};
 ghost use Rattle.lines.specs.Lines.{refusalLine, countsLine, bindingLine, entryLine, slotName, scopeNames, scopeLine, copyLine, resolutionText, identLine, errorLine};
+use nodefile::kinds;
+use nodefile::node;
 use pieces::put_choice;
 use pieces::put_name;
 use pieces::put_number;
@@ -122,7 +123,7 @@ fn put_resolution(out: &mut [u8], c: Cursor, r: u64) -> Cursor
 pub fn put_ident(out: &mut [u8], c: Cursor, file: &[u8], i: usize, r: u32) -> Cursor
     ensures { λ e. ⌜ Puts (identLine (now (file .entry)) i r ∷ []) c (now (out .entry)) e (now (out .exit)) ⌝ }
 {
-    if node::kind(file, i) != 11 {
+    if node::kind(file, i) != kinds::IDENT {
         return c;
     }
     let w = r as u64;

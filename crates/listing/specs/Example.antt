@@ -7,6 +7,7 @@ use Rattle.base.specs.UpTo.{tally, upTo}
 use Rattle.bits.specs.Field.{bitOf, fieldOf}
 use Rattle.bits.specs.Pack.{pack, bytesOf}
 use Rattle.lexical.specs.Lists.{first}
+use Rattle.lexical.specs.Tree.{way, isFn}
 use Rattle.lexical.specs.Records.{Records}
 use Rattle.lexical.specs.Examples.{listingRecords}
 use Rattle.scope.specs.declared.Answer.{Answer}
@@ -14,7 +15,7 @@ use Rattle.scope.specs.Buffers.{Buffers, buffers}
 use Rattle.scope.specs.Packed.{bindingOf, entryOf, pairOf, copyOf, ofNode, answerOf}
 use Rattle.text.specs.Bytes.{ascii, digits, decimal, joined}
 use Rattle.lines.specs.Lines.{nameText, refusalLine, countsLine, sourceText, bindingLine, entryLine, slotName, scopeLine, copyLine, resolutionText, identLine, errorLine}
-use Rattle.listing.specs.Text.{isScope, textOf}
+use Rattle.listing.specs.Text.{textOf}
 
 -- a node: kind, size, value
 node : ℕ → ℕ → ℕ → List ℕ
@@ -63,7 +64,7 @@ listing : textOf bytes (counts listingRecords) (held listingRecords) ≡ joined 
     ∷ ascii "I 9 L 1 1\n"
     ∷ ascii "I 10 L 0 2\n"
     ∷ ascii "E 11 1 _k\n" ∷ [])
-unfolding node name bytes counts held listingRecords tally upTo bitOf fieldOf first ofNode answerOf digits decimal nameText refusalLine countsLine sourceText bindingLine entryLine slotName scopeLine copyLine resolutionText identLine errorLine isScope textOf
+unfolding node name bytes counts held listingRecords tally upTo bitOf fieldOf first ofNode answerOf digits decimal nameText refusalLine countsLine sourceText bindingLine entryLine slotName scopeLine copyLine resolutionText identLine errorLine way isFn textOf
 listing = refl
 
 refusal : textOf bytes (record { number = 12; bindings = 0; «module» = 0; slots = 0; copies = 0; errors = 0 }) (held listingRecords) ≡ ascii "answer 12\n"

@@ -1,25 +1,17 @@
 -- The text of document 01's listing, of any bytes, any answer and any buffers; and a file's own.
 use Prim.Native.Nat.{ℕ, suc}
-use mathlib.Core.Bool.{Bool, true, cond}
+use mathlib.Core.Bool.{cond}
 use mathlib.Core.List.{List, [], _∷_}
 use lib.Dec.{eqb}
 use lib.ListN.{getD, take, replicate}
-use Rattle.base.specs.UpTo.{tally}
-use Rattle.nodefile.specs.Layout.{nodeCount, nodesOf}
-use Rattle.nodefile.specs.Listed.{kindAt}
+use Rattle.nodefile.specs.Layout.{nodeCount}
+use Rattle.nodefile.specs.Listed.{scopeCount}
 use Rattle.scope.specs.declared.Answer.{Answer}
 use Rattle.scope.specs.Buffers.{Buffers, buffers}
 use Rattle.scope.specs.Answer.{Resolves}
 use Rattle.text.specs.Bytes.{joined, each}
 use Rattle.text.specs.Window.{Window}
 use Rattle.lines.specs.Lines.{rows, refusalLine, countsLine, bindingLine, entryLine, scopeLine, copyLine, identLine, errorLine}
-
--- the number of Defs and Lambdas among the nodes
-unfoldable pub isScope : ℕ → Bool
-isScope kind = cond (eqb kind 6) true (eqb kind 12)
-
-abbrev pub scopeCount : List ℕ → ℕ
-scopeCount bs = tally (λ i. isScope (kindAt (nodesOf bs) i)) (nodeCount bs)
 
 -- the lines of each kind
 abbrev pub bindingLines : List ℕ → List ℕ → List ℕ

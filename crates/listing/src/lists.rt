@@ -1,9 +1,7 @@
 // The lists: a line for each record, in order.
-ghost use mathlib.Core.Path.{_≡_};
 ghost use mathlib.Core.List.{[], _∷_};
-ghost use Rattle.nodefile.specs.Node.{Is};
 ghost use Rattle.text.specs.Window.{Puts};
-ghost use Rattle.listing.specs.Text.{bindingLines, entryLines, scopeLines, copyLines, identLines, errorLines, isScope, scopeCount};
+ghost use Rattle.listing.specs.Text.{bindingLines, entryLines, scopeLines, copyLines, identLines, errorLines};
 use crate::read;
 use text::Cursor;
 
@@ -31,36 +29,11 @@ pub fn put_entries(out: &mut [u8], c: Cursor, file: &[u8], list: &[u32]) -> Curs
     k
 }
 
-fn is_scope(kind: u64) -> bool
-    ensures { λ r. ⌜ r ≡ isScope kind ⌝ }
-{
-    if kind == 6 {
-        return true;
-    }
-    kind == 12
-}
-
-// The number of Defs and Lambdas.
-fn scope_count(file: &[u8]) -> usize
-    ensures { λ r. ⌜ Is (scopeCount (now (file .entry))) 65536 r ⌝ }
-{
-    let n = nodefile::node_count(file) as usize;
-    let mut s = 0;
-    let mut i = 0;
-    while i < n {
-        if is_scope(lines::node::kind(file, i)) {
-            s += 1;
-        }
-        i += 1;
-    }
-    s
-}
-
 // Scope 0 and each Def's and Lambda's.
 pub fn put_scopes(out: &mut [u8], c: Cursor, file: &[u8], scopes: &[u32], slots: &[u32]) -> Cursor
     ensures { λ r. ⌜ Puts (scopeLines (now (file .entry)) (now (scopes .entry)) (now (slots .entry)) ∷ []) c (now (out .entry)) r (now (out .exit)) ⌝ }
 {
-    let n = scope_count(file) + 1;
+    let n = nodefile::node::scope_count(file) + 1;
     let mut k = c;
     let mut s = 0;
     while s < n {

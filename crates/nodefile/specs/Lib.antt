@@ -8,6 +8,8 @@ pub mod Reads
 pub mod Height
 pub mod Trees
 pub mod Order
+pub mod Valid
+pub mod Parts
 pub mod Nested
 pub mod Chosen
 pub mod Listed

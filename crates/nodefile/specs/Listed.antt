@@ -2,7 +2,7 @@
 --     listed-in, in-listed, listed-distinct, distinct-listed, listed-tally   for any test of the kind, and anything said of number, kind and value
 --     listed-upTo                                                            what is said of every node, as one list
 --     nodes-upTo, nodes-count, nodes-distinct, nodes-below                   the node numbers: from the first one on, each once
---     scopes-in, in-scopes, scopes-distinct, distinct-scopes, scopes-tally   the scope numbers of the Defs and Lambdas
+--     scopeCount, scopes-in, in-scopes, scopes-distinct, distinct-scopes, scopes-tally   the scope numbers of the Defs and Lambdas
 use Prim.Native.Nat.{ℕ, _+_, _*_, _≤_, _<_}
 use mathlib.Core.Path.{_≡_, refl, sym, ap, ap₂, _∙_, subst}
 use mathlib.Core.Bool.{Bool, true, false, cond}
@@ -13,14 +13,18 @@ use lib.ListN.{length, drop, getElem?}
 use Rattle.base.specs.UpTo.{tally, tally-all, upTo, upTo-is, upTo-length, at-some}
 use Rattle.lexical.specs.Places.{at-below, In, Distinct}
 use Rattle.lexical.specs.Tree.{Forest, nil, node, when, listed, nodesIn, scopesIn, way, isFn}
-use Rattle.nodefile.specs.Node.{kindOf, valueOf}
+use Rattle.nodefile.specs.Node.{kindOf, sizeOf, valueOf}
+use Rattle.nodefile.specs.Layout.{nodeCount, nodesOf}
 use Rattle.nodefile.specs.Reads.{Reads, countOf, reads-length}
 use Rattle.nodefile.specs.Order.{Spot, spotsIn, spots-count, spot-at}
 use Rattle.nodefile.specs.Chosen.{chosen, chosen-append, chosen-tally, chosen-all, chosen-in, in-chosen, chosen-distinct, distinct-chosen}
 
--- kind and value of the node i nodes into a part
+-- kind, size and value of the node i nodes into a part
 abbrev pub kindAt : List ℕ → ℕ → ℕ
 kindAt t i = kindOf (drop (8 * i) t)
+
+abbrev pub sizeAt : List ℕ → ℕ → ℕ
+sizeAt t i = sizeOf (drop (8 * i) t)
 
 abbrev pub valueAt : List ℕ → ℕ → ℕ
 valueAt t i = valueOf (drop (8 * i) t)
@@ -153,8 +157,13 @@ module _ (f : Forest) (t : List ℕ) (at : ℕ) (r : Reads t at f) where
 
 -- ---- the scope numbers
 
+-- Def and Lambda
 abbrev pub isScope : ℕ → Bool
 isScope k = isFn (way k)
+
+-- how many of a file's nodes are one of the two
+abbrev pub scopeCount : List ℕ → ℕ
+scopeCount bs = tally (λ i. isScope (kindAt (nodesOf bs) i)) (nodeCount bs)
 
 module _ (f : Forest) (t : List ℕ) (at : ℕ) (r : Reads t at f) where
   pub scopes-in : (x : ℕ) → In x (scopesIn f) → Found f t at r isScope (λ a k v. v) x

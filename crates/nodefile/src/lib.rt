@@ -1,4 +1,7 @@
 // The node file: reading its fields and its parts. Every function takes any bytes.
+pub mod kinds;
+pub mod node;
+
 ghost use mathlib.Core.Path.{_≡_};
 ghost use Prim.Native.Nat.{_+_, _*_, _^_, _≤_, _<_};
 ghost use Rattle.bits.specs.Field.{fieldOf};

@@ -10,7 +10,7 @@ use Rattle.nodefile.specs.Layout.{nodeCount, fileLength, nodesOf}
 use Rattle.nodefile.specs.Node.{sizeOf}
 use Rattle.nodefile.specs.Reads.{Reads}
 use Rattle.nodefile.specs.Height.{height}
-use Rattle.store.specs.Valid.{Valid}
+use Rattle.nodefile.specs.Valid.{Valid}
 use Rattle.note.specs.Noted.{ListsOk}
 
 pub record Ready (bs : List ℕ) (root : Forest) : Type 0 where

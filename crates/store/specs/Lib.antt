@@ -7,5 +7,4 @@ pub mod Image
 pub mod Meanings
 pub mod Rel
 pub mod Blocks
-pub mod Valid
 pub mod Laws

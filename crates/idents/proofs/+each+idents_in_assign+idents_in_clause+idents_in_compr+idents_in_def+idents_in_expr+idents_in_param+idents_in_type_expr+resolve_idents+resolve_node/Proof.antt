@@ -6,7 +6,7 @@ use mathlib.Core.Logic.{inl, inr}
 use Prim.Native.Nat.{ℕ, _+_, _-_, _*_, _<_}
 use lib.ListN.{length, drop}
 use Rattle.store.specs.Sections.{mem}
-use Rattle.collect.specs.Parts.{kind-take, size-from}
+use Rattle.nodefile.specs.Parts.{kind-take, size-from}
 use Rattle.idents.proofs.Steps.{Mid, kind-is, k-start, k-end, k-node, k-length, k-pre, k-more, k-into, any-done, x-long, x-kind, x-kids-length, x-kids-pre, x-others, x-type, x-ident-pre, x-ident}
 use Rattle.idents.proofs.Cuts.{for-clause, clause-some, f-inside, f-front-length, f-back-length, c-rest-pre, c-first-pre, c-done}
 use Rattle.idents.proofs.Functions.{d-last-pre, d-inside, d-front-length, d-back-length, d-front-pre, d-enter-pre, d-body-pre, d-leave-pre, d-done}

@@ -4,7 +4,7 @@ use native.Mathlib.Omega.{arith}
 use mathlib.Core.Path.{ap, _∙_}
 use Prim.Native.Nat.{ℕ, _-_, _*_}
 use lib.ListN.{length}
-use Rattle.collect.specs.Parts.{size-from}
+use Rattle.nodefile.specs.Parts.{size-from}
 use Rattle.idents.proofs.Trail.{Trail, trail-start, trail-inside, trail-more, trail-end}
 use Rattle.idents.proofs.last.Statement.{statement}
 use Rattle.idents.proofs.last.Tie as tie

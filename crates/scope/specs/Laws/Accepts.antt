@@ -20,8 +20,8 @@ use Rattle.nodefile.specs.Node.{sizeOf}
 use Rattle.nodefile.specs.FileOf.{entryNames, globalNames}
 use Rattle.nodefile.specs.Reads.{Reads, reads-one}
 use Rattle.nodefile.specs.FileLaws.{tree-below}
-use Rattle.store.specs.Valid as store
-use Rattle.store.specs.Valid.{Valid, Some, NameFirst}
+use Rattle.nodefile.specs.Valid as valid
+use Rattle.nodefile.specs.Valid.{Valid, Some, NameFirst}
 use Rattle.note.specs.Noted.{ListsOk}
 use Rattle.judge.specs.Cond.{Judged}
 use Rattle.judge.specs.Accepted.{NodeOk, Each, Accepted}
@@ -60,7 +60,7 @@ table-clause (node at k v kids rest) e = tt
 
 -- ---- node by node
 
-node-ready : {names at k v : ℕ} {kids : Forest} → names ≤ 1024 → at < 2048 → (isFn (way k) ≡ true → v < 256) → NodeOk names (record { number = at; kind = k; value = v; kids = kids }) → store.NodeOk at k v kids
+node-ready : {names at k v : ℕ} {kids : Forest} → names ≤ 1024 → at < 2048 → (isFn (way k) ≡ true → v < 256) → NodeOk names (record { number = at; kind = k; value = v; kids = kids }) → valid.NodeOk at k v kids
 unfolding isFn way
 node-ready {names} {at} {k} {v} {kids} few low scope ok = record {
   number = low;

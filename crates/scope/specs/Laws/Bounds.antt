@@ -25,7 +25,7 @@ use Rattle.lexical.specs.Code.Below as low
 use Rattle.nodefile.specs.Layout.{entryCount, entriesOf}
 use Rattle.nodefile.specs.FileOf.{fileOf, entryOf}
 use Rattle.nodefile.specs.FileLaws.{entries-count, entries-at}
-use Rattle.store.specs.Valid.{Valid}
+use Rattle.nodefile.specs.Valid.{Valid}
 use Rattle.store.specs.Blocks.{moduleBlock, nothing, placed, varsOf, bindingsOf, blockSt}
 use Rattle.target.specs.Placed.{placed-at}
 use Rattle.target.specs.Entries.{unsettled, facts-module, start-is}

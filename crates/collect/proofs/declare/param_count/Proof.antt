@@ -7,7 +7,7 @@ use Prim.Native.Nat.{ℕ, _-_}
 use lib.ListN.{length}
 use Rattle.base.specs.Parts.{part-from}
 use Rattle.nodefile.specs.Reads.{Reads}
-use Rattle.collect.specs.Parts.{size-from}
+use Rattle.nodefile.specs.Parts.{size-from}
 use Rattle.collect.proofs.Counting.{Counted, c-start, c-node, c-more, c-end}
 use Rattle.collect.proofs.declare.param_count.Statement.{statement}
 use Rattle.collect.proofs.declare.param_count.Tie as tie

@@ -8,7 +8,7 @@ use Rattle.lexical.specs.Binders as bind
 use Rattle.lexical.specs.Binders.{collect}
 use Rattle.store.specs.Sections.{mem}
 use Rattle.target.specs.Target.{marksOf}
-use Rattle.collect.specs.Parts.{size-from}
+use Rattle.nodefile.specs.Parts.{size-from}
 use Rattle.collect.proofs.Picks.{statement-through, target-through, clause-through, expression-shut, type-shut}
 use Rattle.collect.proofs.Collecting.{through-node, loop-node, load-node, param-node}
 use Rattle.collect.proofs.Kids.{Mid, k-start, k-end, k-node, k-length, k-pre, k-more}

@@ -7,7 +7,7 @@ use lib.ListN.{getD}
 use Rattle.lines.specs.Lines.{scopeLine}
 use Rattle.text.specs.Window.{Rows}
 use Rattle.text.specs.Laws.{rows-none, rows-more, rows-end, puts-is}
-use Rattle.listing.specs.Text.{scopeCount}
+use Rattle.nodefile.specs.Listed.{scopeCount}
 use Rattle.listing.proofs.lists.put_scopes.Statement.{statement}
 use Rattle.listing.proofs.lists.put_scopes.Tie as tie
 

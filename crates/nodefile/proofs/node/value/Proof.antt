@@ -1,11 +1,11 @@
--- `lines::node::value` meets its contract: that of the node that the part starts with.
+-- `nodefile::node::value` meets its contract: that of the node that the part starts with.
 -- Assumes nothing.
 use Prim.Native.Nat.{_*_}
 use mathlib.Core.Path.{ap, _∙_}
 use lib.ListN.{drop}
 use Rattle.nodefile.specs.Node.{valueOf}
-use Rattle.lines.proofs.node.value.Statement.{statement}
-use Rattle.lines.proofs.node.value.Tie as tie
+use Rattle.nodefile.proofs.node.value.Statement.{statement}
+use Rattle.nodefile.proofs.node.value.Tie as tie
 
 nodes-requires : tie.Need-nodes-requires
 nodes-requires c κs = tt

@@ -11,10 +11,10 @@ use lib.ListN.{length, take, drop, length-drop}
 use lib.Seq.{drop-drop, length-take-le}
 use Rattle.base.specs.Parts.{cut, part-from}
 use Rattle.lexical.specs.Tree.{Forest, nil, node}
 use Rattle.nodefile.specs.Node.{kindOf, sizeOf, valueOf, after}
 use Rattle.nodefile.specs.Reads.{Reads, reads-none}
-use Rattle.store.specs.Valid.{Valid}
-use Rattle.collect.specs.Parts.Nodes.{size-take, alone, Split, split}
+use Rattle.nodefile.specs.Valid.{Valid}
+use Rattle.nodefile.specs.Parts.Nodes.{size-take, alone, Split, split}
 
 -- `&part[i..i + 8 * k]` is the node at byte i by itself
 pub sibling-part : (part : List ℕ) (i k : ℕ) → k ≡ sizeOf (drop i part) → take (i + 8 * k - i) (drop i part) ≡ take (8 * sizeOf (drop i part)) (drop i part)

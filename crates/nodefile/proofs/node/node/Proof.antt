@@ -1,4 +1,4 @@
--- `lines::node::node` meets its contract: a node past the end is no node.
+-- `nodefile::node::node` meets its contract: a node past the end is no node.
 -- Assumes nothing.
 use Prim.Native.Nat.{_*_}
 use mathlib.Core.Path.{sym}
@@ -6,8 +6,8 @@ use native.Mathlib.Omega.{arith}
 use borrow.Author.Needs.{needs}
 use lib.ListN.{drop-of-length-le}
 use Rattle.base.specs.Parts.{part-from}
-use Rattle.lines.proofs.node.node.Statement.{statement}
-use Rattle.lines.proofs.node.node.Tie as tie
+use Rattle.nodefile.proofs.node.node.Statement.{statement}
+use Rattle.nodefile.proofs.node.node.Tie as tie
 
 slice-aggregate-result : tie.Need-slice-aggregate-result
 slice-aggregate-result c = search needs

@@ -1,15 +1,14 @@
--- `listing::lists::scope_count` meets its contract: the nodes below `i` are counted.
+-- `nodefile::node::scope_count` meets its contract: the nodes below `i` are counted.
 -- Assumes nothing.
 use Prim.Native.Nat.{ℕ, _-_, _≤_}
 use mathlib.Core.Path.{sym, ap, _∙_}
 use mathlib.Core.Logic.{⊎-elim}
 use native.Mathlib.Omega.{arith}
 use Rattle.nodefile.specs.Layout.{nodeCount, nodesOf}
-use Rattle.listing.specs.Text.{isScope}
-use Rattle.listing.proofs.Counted.{Counted, counted-none, counted-one, counted-not, counted-end}
-use Rattle.nodefile.specs.Listed.{kindAt}
-use Rattle.listing.proofs.lists.scope_count.Statement.{statement}
-use Rattle.listing.proofs.lists.scope_count.Tie as tie
+use Rattle.nodefile.specs.Listed.{isScope, kindAt}
+use Rattle.nodefile.proofs.Counted.{Counted, counted-none, counted-one, counted-not, counted-end}
+use Rattle.nodefile.proofs.node.scope_count.Statement.{statement}
+use Rattle.nodefile.proofs.node.scope_count.Tie as tie
 
 abbrev Inv-loop : tie.InvT-loop
 Inv-loop file n s₀ i₀ s i = (i ≤ nodeCount file) × Counted (λ (j : ℕ). isScope (kindAt (nodesOf file) j)) i s

@@ -12,9 +12,9 @@ use lib.Seq.{take-take, length-take-le}
 use Rattle.base.specs.Parts.{drop-take}
 use Rattle.bits.specs.FieldLaws.{field-take}
 use Rattle.lexical.specs.Tree.{Forest, nil, node}
 use Rattle.nodefile.specs.Node.{kindOf, sizeOf, valueOf, below, after}
 use Rattle.nodefile.specs.Reads.{Reads, reads-some, reads-none, reads-size, countOf}
-use Rattle.store.specs.Valid.{NodeOk, Valid, Some, NameFirst}
+use Rattle.nodefile.specs.Valid.{NodeOk, Valid, Some, NameFirst}
 
 -- ---- a node by itself
 

@@ -1,11 +1,11 @@
--- `lines::node::kind` meets its contract: that of the node that the part starts with.
+-- `nodefile::node::kind` meets its contract: that of the node that the part starts with.
 -- Assumes nothing.
 use Prim.Native.Nat.{_*_}
 use mathlib.Core.Path.{ap, _∙_}
 use lib.ListN.{drop}
 use Rattle.nodefile.specs.Node.{kindOf}
-use Rattle.lines.proofs.node.kind.Statement.{statement}
-use Rattle.lines.proofs.node.kind.Tie as tie
+use Rattle.nodefile.proofs.node.kind.Statement.{statement}
+use Rattle.nodefile.proofs.node.kind.Tie as tie
 
 nodes-requires : tie.Need-nodes-requires
 nodes-requires c κs = tt
