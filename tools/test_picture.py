@@ -188,7 +188,7 @@ class Program(unittest.TestCase):
                     self.assertEqual((run.returncode, run.stderr.decode(), run.stdout), (status, message, b""))
                     self.assertFalse(page.exists())
         run = self.run_program("--text", source=b"x = \n1")
-        self.assertEqual((run.returncode, run.stderr), (1, b"/dev/stdin:1:5: invalid syntax\n"))
+        self.assertEqual((run.returncode, run.stderr), (1, b"/dev/stdin:1:5: an expression is wanted here, not the end of the line\n"))
 
 
 if __name__ == "__main__":

@@ -1,0 +1,13 @@
+"""The chunks of a test file: several scripts in one, between lines of `---`."""
+
+import re
+
+BETWEEN = re.compile(rb"(?m)^---[ \t]*\r?(?:\n|\Z)")
+
+
+def chunks(data):
+    """The scripts of a chunked file, each with blank lines before it, so that its lines keep their numbers."""
+    start, ends = 0, [*(mark.span() for mark in BETWEEN.finditer(data)), (len(data), len(data))]
+    for end, following in ends:
+        yield b"\n" * data.count(b"\n", 0, start) + data[start:end]
+        start = following
