@@ -233,10 +233,8 @@ class Expressions(Parameters):
         token = self.take()
         if self.sees("string"):
             raise self.refused(self.token.at, "two strings side by side are not Starlark; `+` joins them")
-        prefix, _, inside = STRING.fullmatch(token.text).groups()
-        names = []
-        if b"f" in prefix:
-            names = self.names_in_braces(inside, token.at + token.text.index(inside, len(prefix) + 1))
+        prefix, quote, inside = STRING.fullmatch(token.text).groups()
+        names = self.names_in_braces(inside, token.at + len(prefix) + len(quote)) if b"f" in prefix else []
         return other("a string", token.at, names)
 
     def names_in_braces(self, inside, at):

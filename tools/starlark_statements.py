@@ -188,9 +188,9 @@ class Statements(Expressions):
             return self.quoted_name(self.take())
         name = self.expect("name", 'a name in quotes, or `name = "its name there"`,')
         spelling = name.text.decode()
-        if not self.sees("="):
-            raise self.refused(name.at, f'a loaded name is a string: `"{spelling}"`, or `{spelling} = "its name there"`')
-        self.take()
+        if not self.took("="):
+            strings = f'`"{spelling}"`, or `{spelling} = "its name there"`'
+            raise self.refused(name.at, f"a loaded name is a string: {strings}")
         self.expect("string", "a name in quotes")
         return Node(NAME, name.text, name.at)
 

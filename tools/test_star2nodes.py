@@ -232,7 +232,7 @@ class Programs(unittest.TestCase):
             self.assertEqual(run.stderr, b"-:1:8: a generator expression is not Starlark\n")
 
     def test_what_cannot_be_read_or_written(self):
-        for arguments in ("", "/nowhere", "/dev/stdin --globals /nowhere", "/dev/stdin -o /nowhere/x"):
+        for arguments in ("", "/nowhere", "- --globals /nowhere", "- -o /nowhere/x", "- --globals -"):
             with self.subTest(arguments):
                 self.assertEqual(self.run_star2nodes(*arguments.split()).returncode, 2)
 

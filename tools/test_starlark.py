@@ -1,9 +1,11 @@
 """What is Starlark, and what is said of the rest."""
 
 import sys
+import tempfile
 import unittest
+from pathlib import Path
 
-from chunks import chunks
+from chunks import chunks, split_files
 from small_scripts import ACCEPTED, LESS_HERE, MORE_HERE, REFUSED, TOO_MUCH
 from starlark_reading import MAX_NESTING
 from starlark_source import Refused
@@ -38,7 +40,8 @@ class Accepting(unittest.TestCase):
 
     def test_keywords_and_reserved_words_are_no_names(self):
         for word in KEYWORDS | RESERVED:
-            for source in ("{} = 1", "x = [{}]", "x.{}", "def {}(): pass", "lambda {}: 1", "f({} = 1)", 'load("m", "{}")'):
+            for source in ("{} = 1", "x = [{}]", "x.{}", "def {}(): pass", "lambda {}: 1", "f({} = 1)",
+                           'load("m", "{}")'):
                 with self.subTest(source.format(word)):
                     self.assertIsNotNone(refusal(source.format(word)))
 
@@ -118,15 +121,16 @@ class Refusing(unittest.TestCase):
                          "1:200005: an expression is wanted here, not the end of the line")
         self.assertIsNone(refusal("x = " + "-" * 200_000 + "1"))
         for around, inside in (
-            ("({})", "a"), ("[{}]", ""), ("{{a: {}}}", "{}"), ("f(a = {})", "b"), ("a[{}]", "b"), ("a[b:{}]", "c"), ("-({})", "a"),
-            ("[a for b in {}]", "c"), ("[a for b in c if {}]", "d"), ("{{a: b for c in {}}}", "d"), ("[a for b[{}] in c]", "d"),
-            ("lambda: {}", "a"), ("lambda a = {}: b", "c"), ("(a if b else {})", "c"), ("(a, {}) = b", "c"),
+            ("({})", "a"), ("[{}]", ""), ("{{a: {}}}", "{}"), ("f(a = {})", "b"), ("a[{}]", "b"), ("a[b:{}]", "c"),
+            ("[a for b in {}]", "c"), ("[a for b in c if {}]", "d"), ("{{a: b for c in {}}}", "d"),
+            ("[a for b[{}] in c]", "d"), ("lambda: {}", "a"), ("lambda a = {}: b", "c"), ("(a if b else {})", "c"),
+            ("-({})", "a"), ("(a, {})", "c"),
         ):
             source = inside
             for _ in range(3000):
                 source = around.format(source) if len(source) < 40_000 else source
             with self.subTest(around):
-                self.assertRegex(refusal("x = " + source), f"nested more than {MAX_NESTING} levels deep|wanted here")
+                self.assertIn(f"nested more than {MAX_NESTING} levels deep", refusal("x = " + source))
         for begin in ("if a:\n", "def f():\n", "for a in b:\n", "if a:\n b\nelse:\n"):
             deep = "".join("".join(" " * level + line + "\n" for line in begin.splitlines()) for level in range(1000))
             with self.subTest(begin):
@@ -153,8 +157,19 @@ def frames():
 
 class Chunks(unittest.TestCase):
     def test_chunks_keep_their_line_numbers(self):
-        self.assertEqual(list(chunks(b"a\n---\nb\nc\n---\n---\nd")), [b"a\n", b"\n\nb\nc\n", b"\n" * 5, b"\n" * 6 + b"d"])
-        self.assertEqual(list(chunks(b"a = '---'\n----\n --- \n")), [b"a = '---'\n----\n --- \n"])
+        for data, parts in (
+            (b"a\n---\nb\nc\n---\n---\nd", [b"a\n", b"\n\nb\nc\n", b"\n" * 5, b"\n" * 6 + b"d"]),
+            (b"a = '---'\n----\n --- \n", [b"a = '---'\n----\n --- \n"]),
+        ):
+            self.assertEqual(list(chunks(data)), parts)
+
+    def test_a_file_with_chunks_becomes_several(self):
+        with tempfile.TemporaryDirectory() as folder:
+            Path(folder, "a.star").write_bytes(b"x\n---\ny\n")
+            Path(folder, "b.star").write_bytes(b"z\n")
+            split_files(Path(folder))
+            found = {path.name: path.read_bytes() for path in Path(folder).iterdir()}
+        self.assertEqual(found, {"a-1.star": b"x\n", "a-2.star": b"\n\ny\n", "b.star": b"z\n"})
 
 
 if __name__ == "__main__":

@@ -12,7 +12,8 @@ TOOLS = Path(__file__).resolve().parent
 class Comparison(unittest.TestCase):
     @unittest.skipUnless(starlark_go.installed(), "needs go and golang-starlark-dev")
     def test_the_same_scripts_are_accepted(self):
-        run = subprocess.run([TOOLS / "compare-starlark-go", TOOLS.parent / "samples"], stdout=subprocess.PIPE, text=True)
+        command = [TOOLS / "compare-starlark-go", TOOLS.parent / "samples"]
+        run = subprocess.run(command, stdout=subprocess.PIPE, text=True)
         self.assertEqual(run.returncode, 0, run.stdout)
 
 
