@@ -45,14 +45,10 @@ def other(what, at, operands=(), parts=()):
 class Expressions(Parameters):
     """Reads expressions, targets and arguments."""
 
-    # Names of the grammar: an Expression is a Test or an unbracketed tuple of them.
-
     def expression(self):
         """A test, or a tuple without brackets."""
-        first = self.test()
-        if not self.sees(","):
-            return first
-        return self.tuple(first.node.offset, self.more(first))
+        start, first = self.token.at, self.test()
+        return self.tuple(start, self.more(first)) if self.sees(",") else first
 
     def more(self, first):
         """The elements of a tuple without brackets, which may not end with a comma."""
@@ -331,10 +327,10 @@ class Expressions(Parameters):
 
     def loop_variables(self):
         """What stands between `for` and `in`."""
-        variables = [self.suffixed()]
+        start, variables = self.token.at, [self.suffixed()]
         while self.took(","):
             variables.append(self.suffixed())
-        return variables[0] if len(variables) == 1 else self.tuple(variables[0].node.offset, variables)
+        return variables[0] if len(variables) == 1 else self.tuple(start, variables)
 
     def target(self, found):
         """The node of an expression that is assigned to."""

@@ -40,8 +40,7 @@ class Parameters(Reader):
         return made
 
     def type_node(self):
-        found = self.test()
-        return Node(TYPE, 0, found.node.offset, [found.node])
+        return Node(TYPE, 0, self.token.at, [self.test().node])
 
 
 class ParameterOrder:

@@ -107,9 +107,17 @@ class Conversion(unittest.TestCase):
         )
 
     def test_each_node_stands_at_its_first_byte(self):
-        root, _ = convert(b"(a + b)((c, d)) if [e] else {f: g}\n(h).i = j")
-        found = [(KINDS[node.kind], node.offset) for node in preorder(root) if node.kind not in NAMED]
-        self.assertEqual(found, [("Block", 0), ("Plain", 0), ("Other", 0), ("Assign", 35), ("Place", 35)])
+        for source, places in (
+            (b"(a + b)((c, d)) if [e] else {f: g}\n(h).i = j", "Block 0, Plain 0, Other 0, Assign 35, Place 35"),
+            (b"(a), (b, c) = (d), e", "Assign 0, Tuple 0, Tuple 5, Other 14"),
+            (b"for (a), b in (c): (d + e)", "For 0, Tuple 4, Plain 19, Other 20"),
+            (b"def f(a, *, b: (c) = 1): 'd'", "Def 0, Param 6, Param 9, Param 12, Type 15, Other 21, Plain 25, Other 25"),
+            (b"\\\n [(a) for (b), c in d if (e)]", "Plain 3, Compr 3, ForClause 8, Tuple 12, IfClause 24"),
+        ):
+            with self.subTest(source):
+                root, _ = convert(source)
+                found = [f"{KINDS[node.kind]} {node.offset}" for node in preorder(root) if node.kind not in NAMED]
+                self.assertEqual(", ".join(found), places)
 
     def test_names_stand_at_their_offsets(self):
         source = 'load("m", "a", b = "c")\ndef  f(x, *y, **z):\n  é.x = f"{x}" + [k for k in y]\n  g(z = z)\n'
