@@ -1,5 +1,7 @@
 """The order of a call's arguments: positional, named, `*`, `**`."""
 
+from starlark_source import quoted
+
 RANKS = {"positional": 0, "named": 1, "*": 2, "**": 3}
 SPOKEN = {"positional": "a positional argument", "named": "a named argument", "*": "`*`", "**": "`**`"}
 
@@ -19,6 +21,6 @@ class ArgumentOrder:
             raise self.reader.refused(begun.at, f"{SPOKEN[kind]} after {SPOKEN[self.last]}")
         if kind == "named":
             if begun.text in self.names:
-                raise self.reader.refused(begun.at, f"a second argument named `{begun.text.decode()}`")
+                raise self.reader.refused(begun.at, f"a second argument named {quoted(begun.text)}")
             self.names.add(begun.text)
         self.last = kind

@@ -2,6 +2,8 @@
 
 import bisect
 
+LONGEST_QUOTED = 60
+
 
 class Refused(Exception):
     """Text that is refused: at a line and a column, both from 1, and why."""
@@ -12,6 +14,15 @@ class Refused(Exception):
 
     def __str__(self):
         return f"{self.path}:" * bool(self.path) + f"{self.line}:{self.column}: {self.why}"
+
+
+def quoted(text):
+    """A piece of source as a refusal shows it: in one line, and short."""
+    if isinstance(text, bytes):
+        text = text.decode()
+    if len(text) > LONGEST_QUOTED:
+        text = text[:LONGEST_QUOTED] + ".."
+    return "`" + "".join(each if each.isprintable() else f"\\u{ord(each):04x}" for each in text) + "`"
 
 
 class Source:

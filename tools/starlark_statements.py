@@ -7,6 +7,7 @@ not deep.
 
 from nodefile import ASSIGN, BLOCK, DEF, FOR, IF, LOAD, MODIFY, NAME, PLAIN, Node
 from starlark_expressions import Expressions
+from starlark_source import quoted
 from starlark_tokens import STRING, why_no_name
 
 AUGMENTED = ("+=", "-=", "*=", "/=", "//=", "%=", "&=", "|=", "^=", "<<=", ">>=")
@@ -187,10 +188,9 @@ class Statements(Expressions):
         if self.sees("string"):
             return self.quoted_name(self.take())
         name = self.expect("name", 'a name in quotes, or `name = "its name there"`,')
-        spelling = name.text.decode()
         if not self.took("="):
-            strings = f'`"{spelling}"`, or `{spelling} = "its name there"`'
-            raise self.refused(name.at, f"a loaded name is a string: {strings}")
+            strings = quoted(b'"%b"' % name.text), quoted(b'%b = "its name there"' % name.text)
+            raise self.refused(name.at, f"a loaded name is a string: {strings[0]}, or {strings[1]}")
         self.expect("string", "a name in quotes")
         return Node(NAME, name.text, name.at)
 

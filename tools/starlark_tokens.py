@@ -5,6 +5,8 @@ import re
 import unicodedata
 from dataclasses import dataclass
 
+from starlark_source import quoted
+
 KEYWORDS = frozenset("and break continue def elif else for if in lambda load not or pass return".split())
 RESERVED = frozenset("""
     as class del except finally from global import is nonlocal raise try while with yield
@@ -53,7 +55,6 @@ class Token:
 
     def __str__(self):
         """The token as a refusal speaks of it."""
-        text = self.text.decode()
         match self.kind:
             case "newline":
                 return "the end of the line"
@@ -66,9 +67,9 @@ class Token:
             case "string":
                 return "a string"
             case "name" | "number":
-                return f"the {self.kind} `{text}`"
+                return f"the {self.kind} {quoted(self.text)}"
             case _:
-                return f"`{text}`"
+                return quoted(self.text)
 
 
 def why_no_name(spelling):
@@ -76,7 +77,7 @@ def why_no_name(spelling):
     if spelling in KEYWORDS | RESERVED:
         return f"`{spelling}` is a keyword of Starlark" if spelling in KEYWORDS else reserved(spelling)
     if not IDENTIFIER.fullmatch(spelling) or not all(map(belongs_to_name, spelling)):
-        return f"`{spelling}` is no name"
+        return f"{quoted(spelling)} is no name"
     return None
 
 
@@ -186,12 +187,12 @@ class Scanner:
         if self.data[self.at:self.at + 1] in (b"j", b"J"):
             raise self.refused(at, "an imaginary number is not Starlark")
         if re.fullmatch(rb"0[0-9]+", text) and not INTEGER.fullmatch(text):
-            raise self.refused(at, f"`{text.decode()}` begins with 0: decimal has no such 0, octal begins with 0o")
+            raise self.refused(at, f"{quoted(text)} begins with 0: decimal has no such 0, octal begins with 0o")
         if FLOAT.fullmatch(text):
             if math.isinf(float(text)):
                 raise self.refused(at, "a floating-point number that is too large")
         elif not INTEGER.fullmatch(text):
-            raise self.refused(at, f"`{text.decode()}` is no number")
+            raise self.refused(at, f"{quoted(text)} is no number")
         return Token("number", at, text)
 
     def string(self, beginning, at):
@@ -210,13 +211,13 @@ class Scanner:
         escape = ESCAPE.match(self.data, at)
         if not escape:
             written = self.data[at:at + 5].decode(errors="ignore")[:2]
-            raise self.refused(at, f"`{written}` is no whole escape of Starlark; a backslash itself is `\\\\`")
+            raise self.refused(at, f"{quoted(written)} is no whole escape of Starlark; a backslash itself is `\\\\`")
         octal, *hexadecimal = escape.groups()
         point = next((int(digits, 16) for digits in hexadecimal if digits), 0)
         if int(octal or b"0", 8) > 0xff or 0xd800 <= point <= 0xdfff or point > 0x10ffff:
-            raise self.refused(at, f"`{escape[0].decode()}` is no character")
+            raise self.refused(at, f"{quoted(escape[0])} is no character")
 
 
 def shown(character):
     """A character that has no place outside strings and comments."""
-    return f"`{character}`" if character.isprintable() else f"the character U+{ord(character):04X}"
+    return quoted(character) if character.isprintable() else f"the character U+{ord(character):04X}"

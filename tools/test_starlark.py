@@ -113,6 +113,9 @@ class Refusing(unittest.TestCase):
             ("x = é×", "1:6: `×` is not Starlark"),
             ("x = 'é\\d'", "1:7: `\\d` is no whole escape of Starlark; a backslash itself is `\\\\`"),
             ("x = 'a", "1:5: a string that is not closed on its line"),
+            ("x = '\\\t'", "1:6: `\\\\u0009` is no whole escape of Starlark; a backslash itself is `\\\\`"),
+            ("load('m', \"\"\"a\nb\"\"\")", "1:11: `a\\u000ab` is no name"),
+            ("a " + "b" * 1000, f"1:3: the end of the statement is wanted here, not the name `{'b' * 60}..`"),
             ("x = 0755", "1:5: `0755` begins with 0: decimal has no such 0, octal begins with 0o"),
         )
 

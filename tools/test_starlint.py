@@ -1,5 +1,6 @@
 """The command starlint, with the mirror in place of scopelist."""
 
+import os
 import subprocess
 import tempfile
 import unittest
@@ -76,6 +77,14 @@ class Program(unittest.TestCase):
         scripts = {"a.star": b"x = y", "b.star": b"x = len(z)", "e": b"y public 0 # of before\n"}
         options = ["--globals", "-", "--globals-default", "--entries", "e"]
         self.assertEqual(self.lint(scripts, *options, "a.star", "b.star", standard_input=b"z # mine\n"), (0, "", ""))
+
+    def test_a_path_of_any_bytes(self):
+        with tempfile.TemporaryDirectory() as folder:
+            script = os.path.join(os.fsencode(folder), b"\xff.star")
+            Path(os.fsdecode(script)).write_bytes(b"x = y")
+            command = [TOP / "tools/starlint", "--scopelist", MIRROR, script]
+            run = subprocess.run(command, stdout=subprocess.PIPE, env=os.environ | {"LC_ALL": "C.UTF-8"})
+        self.assertEqual((run.returncode, run.stdout), (1, script + b":1:5: `y` is not found\n"))
 
     def test_standard_input(self):
         self.assertEqual(self.lint({}, "-", standard_input=b"\nx = y"), (1, "-:2:5: `y` is not found\n", ""))
