@@ -1,10 +1,13 @@
-"""A node file from Starlark source and lists: what star2nodes and scopepicture share."""
+"""A node file from Starlark source and lists: what star2nodes, scopepicture and starlint share."""
 
 import re
+from dataclasses import dataclass
 from pathlib import Path
 
+from inputs import content
 from nodefile import MAX_ENTRIES, MAX_GLOBALS, MAX_NAME_BYTES, MAX_NAMES, MAX_POOL, MAX_SLOT, File
 from starlark_source import Refused
+from starlark_tokens import why_no_name
 from starlark_tree import convert
 
 # The names that every Starlark program has.
@@ -15,9 +18,13 @@ UNIVERSE = """
 
 
 def add_options(parser):
-    """The options that say what a node file is made of."""
-    parser.add_argument("source", type=Path, help="Starlark source; /dev/stdin for standard input")
-    parser.add_argument("--globals", type=Path, metavar="FILE", help="the globals: a name a line")
+    """The source, and the options that say what else a node file is made of."""
+    parser.add_argument("source", type=Path, help="Starlark source; `-` for standard input")
+    add_list_options(parser)
+
+
+def add_list_options(parser):
+    parser.add_argument("--globals", type=Path, metavar="FILE", help="the globals: a name a line; `#` begins a comment")
     parser.add_argument("--globals-default", action="store_true", help="the globals: Starlark's own (None, len, ...); "
                         "with --globals these come first")
     parser.add_argument("--entries", type=Path, metavar="FILE",
@@ -25,14 +32,22 @@ def add_options(parser):
     parser.add_argument("--reexport", action="store_true", help="loaded names are public")
 
 
+@dataclass
+class Lists:
+    """What a node file holds besides the script: rows of entries and of globals."""
+
+    reexport: bool
+    entries: list
+    globals: list
+
+
 def exported(options, data):
     """The File that the options and the source's bytes make."""
-    try:
-        root, spellings = convert(data)
-    except Refused as error:
-        error.path = options.source
-        raise
-    names = Names(spellings)
+    return file_of(options.source, data, lists_of(options))
+
+
+def lists_of(options):
+    """The lists that the options name, read and checked."""
     entries = read_entries(options.entries) if options.entries else []
     globals_ = [Row(Path("--globals-default"), number, [(name, 1)])
                 for number, name in enumerate(UNIVERSE * options.globals_default, 1)]
@@ -41,11 +56,22 @@ def exported(options, data):
         globals_ += (row for row in rows(options.globals, 1) if row.name not in given)
     check_amount(entries, MAX_ENTRIES, "module entries")
     check_amount(globals_, MAX_GLOBALS, "globals")
+    return Lists(options.reexport, entries, globals_)
+
+
+def file_of(path, data, lists):
+    """The File of the source at a path, with these lists."""
+    try:
+        root, spellings = convert(data)
+    except Refused as error:
+        error.path = path
+        raise
+    names = Names(spellings)
     return File(
-        reexport=options.reexport,
+        reexport=lists.reexport,
         root=root,
-        entries=[(names.number(row), row.word(1) == "public", int(row.word(2))) for row in entries],
-        globals=[names.number(row) for row in globals_],
+        entries=[(names.number(row), row.word(1) == "public", int(row.word(2))) for row in lists.entries],
+        globals=[names.number(row) for row in lists.globals],
         names=list(names.numbers),
     )
 
@@ -101,22 +127,28 @@ def read_entries(path):
 
 
 def rows(path, count):
-    """The lines of a list with so many words each, the first a new name; blank lines are skipped."""
+    """The lines of a list with so many words each, the first a new name; blank lines and comments are skipped."""
     seen = set()
-    for number, line in enumerate(path.read_bytes().splitlines(), 1):
+    for number, line in enumerate(content(path).splitlines(), 1):
         try:
-            text = line.decode()
+            text, _, _ = line.decode().partition("#")
         except UnicodeDecodeError as error:
             raise Refused(number, len(line[:error.start].decode()) + 1, "not UTF-8", path) from None
         words = [(word.group(), word.start() + 1) for word in re.finditer(r"\S+", text)]
-        if not words:
-            continue
-        row = Row(path, number, words)
-        if len(words) != count:
-            raise row.refused(0, f"{len(words)} words, {count} wanted")
-        if len(row.name.encode()) > MAX_NAME_BYTES:
-            raise row.refused(0, f"more than {MAX_NAME_BYTES} bytes in a name")
-        if row.name in seen:
-            raise row.refused(0, f"`{row.name}` a second time")
-        seen.add(row.name)
-        yield row
+        if words:
+            row = Row(path, number, words)
+            check_row(row, count, seen)
+            seen.add(row.name)
+            yield row
+
+
+def check_row(row, count, seen):
+    """Refuse a row of another number of words, or whose first is no name or one that was seen."""
+    if len(row.words) != count:
+        raise row.refused(0, f"{len(row.words)} words, {count} wanted")
+    if why := why_no_name(row.name):
+        raise row.refused(0, why)
+    if len(row.name.encode()) > MAX_NAME_BYTES:
+        raise row.refused(0, f"more than {MAX_NAME_BYTES} bytes in a name")
+    if row.name in seen:
+        raise row.refused(0, f"`{row.name}` a second time")

@@ -1,11 +1,8 @@
 """Source text, places in it, and what is said when it is refused."""
 
-import ast
 import bisect
-import re
-import warnings
 
-DEF_AND_GAP = re.compile(rb"def(?:\s|\\)+")
+LONGEST_QUOTED = 60
 
 
 class Refused(Exception):
@@ -19,6 +16,15 @@ class Refused(Exception):
         return f"{self.path}:" * bool(self.path) + f"{self.line}:{self.column}: {self.why}"
 
 
+def quoted(text):
+    """A piece of source as a refusal shows it: in one line, and short."""
+    if isinstance(text, bytes):
+        text = text.decode()
+    if len(text) > LONGEST_QUOTED:
+        text = text[:LONGEST_QUOTED] + ".."
+    return "`" + "".join(each if each.isprintable() else f"\\u{ord(each):04x}" for each in text) + "`"
+
+
 class Source:
     """Source text, and places in it as byte offsets."""
 
@@ -28,22 +34,9 @@ class Source:
         for line in data.splitlines(keepends=True):
             self.starts.append(self.starts[-1] + len(line))
         try:
-            self.text = data.decode()
+            data.decode()
         except UnicodeDecodeError as error:
             raise self.refused(error.start, "not UTF-8") from None
-        if "\0" in self.text:
-            raise self.refused(data.index(b"\0"), "a zero byte is not Starlark")
-
-    def parse(self):
-        """Python's tree of the text."""
-        try:
-            with warnings.catch_warnings():
-                warnings.simplefilter("ignore")  # string escapes that Python frowns upon
-                return ast.parse(self.text)
-        except SyntaxError as error:
-            raise Refused(error.lineno or 1, error.offset or 1, error.msg) from None
-        except (ValueError, RecursionError, MemoryError) as error:
-            raise Refused(1, 1, f"Python's parser gives up: {error or 'nested too deeply'}") from None
 
     def place(self, offset):
         """The line and the column of a byte, both from 1; columns count characters."""
@@ -53,22 +46,3 @@ class Source:
 
     def refused(self, offset, why):
         return Refused(*self.place(offset), why)
-
-    def at(self, node):
-        """Where a node of Python's tree begins."""
-        return self.starts[node.lineno - 1] + node.col_offset
-
-    def end(self, node):
-        return self.starts[node.end_lineno - 1] + node.end_col_offset
-
-    def name_of_def(self, at):
-        """Where the name stands that follows the `def` at this offset."""
-        return DEF_AND_GAP.match(self.data, at).end()
-
-    def after(self, offset, text):
-        """Where `text` stands next, from `offset` on."""
-        return self.data.index(text, offset)
-
-    def before(self, offset, text):
-        """Where `text` stood last before `offset`."""
-        return self.data.rindex(text, 0, offset)

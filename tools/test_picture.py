@@ -158,7 +158,11 @@ class Program(unittest.TestCase):
     """The command scopepicture, with the mirror in place of scopelist."""
 
     def run_program(self, *arguments, source=b"x = 1"):
+<<<<<<< HEAD
         command = [TOP / "tools/scopepicture", "/dev/stdin", "--scopelist", str(TOP / "tests/readings/mirror.py"), *arguments]
+=======
+        command = [TOP / "tools/scopepicture", "-", "--scopelist", str(TOP / "tests/mirror.py"), *arguments]
+>>>>>>> exporter
         return subprocess.run(command, input=source, capture_output=True)
 
     def test_text_and_page(self):
@@ -176,10 +180,9 @@ class Program(unittest.TestCase):
             nodes.write_bytes(pack(drawn(b"x = 1").resolved.file)[:-1])
             listing.write_bytes(b"answer 12\n")
             for arguments, status, message in (
-                (["--nodes", nodes], 1, "/dev/stdin: answer 4: its length is not what the header says\n"),
-                (["--listing", listing], 1,
-                 "/dev/stdin: answer 12: all scopes together would need more than 4,096 slots\n"),
-                (["--listing", nodes], 1, "/dev/stdin: the listing does not begin with `answer`\n"),
+                (["--nodes", nodes], 1, "-: answer 4: its length is not what the header says\n"),
+                (["--listing", listing], 1, "-: answer 12: all scopes together would need more than 4,096 slots\n"),
+                (["--listing", nodes], 1, "-: the listing does not begin with `answer`\n"),
                 (["--scopelist", "/nowhere"], 2, "scopepicture: [Errno 2] No such file or directory: '/nowhere'\n"),
                 (["--scopelist", "false"], 2, "scopepicture: Command '['false']' returned non-zero exit status 1.\n"),
             ):
@@ -188,7 +191,8 @@ class Program(unittest.TestCase):
                     self.assertEqual((run.returncode, run.stderr.decode(), run.stdout), (status, message, b""))
                     self.assertFalse(page.exists())
         run = self.run_program("--text", source=b"x = \n1")
-        self.assertEqual((run.returncode, run.stderr), (1, b"/dev/stdin:1:5: invalid syntax\n"))
+        self.assertEqual((run.returncode, run.stderr),
+                         (1, b"-:1:5: an expression is wanted here, not the end of the line\n"))
 
 
 if __name__ == "__main__":

@@ -23,7 +23,7 @@ ERRORS = {1: "not found", 2: "local in a type"}
 
 # The groups of lines in their order, each with the shape of a line.
 SHAPES = {
-    "B": re.compile(rb"B (\d+) .+ ([ML]) (\d+) (public|private) (once|any) (captured|free) (\d+|-)"),
+    "B": re.compile(rb"B (\d+) .+ ([ML]) (\d+) (public|private) (once|any) (captured|free) (\d+|-)(?: (\d+))?"),
     "M": re.compile(rb"M (\d+) .+ (public|private)"),
     "S": re.compile(rb"S (\d+) (\d+):(.*)"),
     "C": re.compile(rb"C (\d+) (\d+) (\d+)"),
@@ -47,7 +47,10 @@ class NotResolved(Exception):
 
 @dataclass
 class Binding:
-    """A variable; `source` is the Name node that declares it, None if it comes from the module's list."""
+    """A variable; `source` is the Name node that declares it, None if it comes from the module's list.
+
+    `reads` says how often it is read, where the listing says so.
+    """
 
     local: bool
     slot: int
@@ -55,6 +58,7 @@ class Binding:
     any: bool
     captured: bool
     source: int | None
+    reads: int | None = None
 
 
 @dataclass
@@ -80,8 +84,8 @@ def read_listing(data):
         raise Unfit("the listing's lines are not as many as its first line says")
     return Listing(
         bindings=[Binding(kind == b"L", int(slot), public == b"public", count == b"any", captured == b"captured",
-                          None if source == b"-" else int(source))
-                  for _, kind, slot, public, count, captured, source in groups["B"]],
+                          None if source == b"-" else int(source), None if reads is None else int(reads))
+                  for _, kind, slot, public, count, captured, source, reads in groups["B"]],
         parameters=[int(count) for _, count, _ in groups["S"]],
         copies={(int(scope), int(child)): int(parent) for scope, parent, child in groups["C"]},
         answers={int(node): (kind.decode(), int(slot), None if binding == b"-" else int(binding))

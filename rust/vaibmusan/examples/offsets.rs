@@ -10,14 +10,14 @@ pub fn script() -> Script {
     Script::new(root).with_globals(["sorted"])
 }
 
-/// [(time, car) for stamp, car in log]
-fn events(time: Expr) -> Expr {
-    Expr::compr(Expr::other([time, "car".into()]), Target::tuple(["stamp", "car"]), "log")
+/// [(time, car) for stamp, car in log]; the names in `time` stand in the Other that also holds car.
+fn events(time: [&str; 2]) -> Expr {
+    Expr::compr(Expr::other([time[0], time[1], "car"]), Target::tuple(["stamp", "car"]), "log")
 }
 
 /// def own(log): return [(stamp + offset, car) for stamp, car in log]
 fn own() -> Stmt {
-    Stmt::def("own", ["log"], Stmt::plain(events(Expr::other(["stamp", "offset"]))))
+    Stmt::def("own", ["log"], Stmt::plain(events(["stamp", "offset"])))
 }
 
 /// def corrected(logs, clock): ..
@@ -28,7 +28,7 @@ fn corrected() -> Stmt {
         // correct = lambda stamp: stamp + offset
         Stmt::assign("correct", Expr::lambda(["stamp"], Expr::other(["stamp", "offset"]))),
         // events += [(correct(stamp), car) for stamp, car in log]
-        Stmt::Modify("events".into(), events(Expr::other(["correct", "stamp"]))),
+        Stmt::Modify("events".into(), events(["correct", "stamp"])),
     ]);
     let body =
         Stmt::block([Stmt::assign("events", Expr::Other(vec![])), Stmt::for_in(Target::tuple(["neighbour", "log"]), "logs", in_loop), Stmt::plain("events")]);
@@ -37,8 +37,8 @@ fn corrected() -> Stmt {
 
 /// def in_order(log, logs, clock): return sorted(own(log) + corrected(logs, clock))
 fn in_order() -> Stmt {
-    let sum = Expr::other([Expr::other(["own", "log"]), Expr::other(["corrected", "logs", "clock"])]);
-    Stmt::def("in_order", ["log", "logs", "clock"], Stmt::plain(Expr::other(["sorted".into(), sum])))
+    let sorted = Expr::other(["sorted", "own", "log", "corrected", "logs", "clock"]);
+    Stmt::def("in_order", ["log", "logs", "clock"], Stmt::plain(sorted))
 }
 
 fn main() -> Result<(), Box<dyn Error>> {
