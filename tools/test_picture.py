@@ -158,11 +158,7 @@ class Program(unittest.TestCase):
     """The command scopepicture, with the mirror in place of scopelist."""
 
     def run_program(self, *arguments, source=b"x = 1"):
-<<<<<<< HEAD
-        command = [TOP / "tools/scopepicture", "/dev/stdin", "--scopelist", str(TOP / "tests/readings/mirror.py"), *arguments]
-=======
-        command = [TOP / "tools/scopepicture", "-", "--scopelist", str(TOP / "tests/mirror.py"), *arguments]
->>>>>>> exporter
+        command = [TOP / "tools/scopepicture", "-", "--scopelist", str(TOP / "tests/readings/mirror.py"), *arguments]
         return subprocess.run(command, input=source, capture_output=True)
 
     def test_text_and_page(self):

@@ -12,7 +12,7 @@ from linting import findings
 from nodefile import pack
 from picture.listing import read_listing
 
-MIRROR = str(TOP / "tests/mirror.py")
+MIRROR = str(TOP / "tests/readings/mirror.py")
 
 
 def counted(data):
