@@ -1,0 +1,5 @@
+pub mod Passing
+pub mod Sums
+pub mod Grouped
+pub mod Theorems
+pub mod Held
