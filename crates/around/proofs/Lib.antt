@@ -1,0 +1,5 @@
+mod Read
+mod Zeros
+mod Fitted
+mod Going
+mod Walking

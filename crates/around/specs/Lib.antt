@@ -1,0 +1,12 @@
+pub mod Ends
+pub mod Scopes
+pub mod Outer
+pub mod Descent
+pub mod Levels
+pub mod Opens
+pub mod Above
+pub mod Laws
+pub mod OuterLaws
+pub mod Table
+pub mod Theorems
+pub mod Example
