@@ -110,3 +110,8 @@ def check(F, st):
         needed |= {(s, b.id) for s in e.scopes[:e.scopes.index(b.owner)]}
     assert not events, f"looked up, but no Ident: {events}"
     assert sorted(needed) == sorted((c.scope, c.id) for c in st.copies), "copies that no Ident needs"
+
+
+def sitesOf(F):
+    """The Idents of a file with the nodes around each, in node order."""
+    return sites(F.names, F.root, Way.plain, 0, [], ())

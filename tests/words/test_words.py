@@ -15,7 +15,7 @@ from files.examples import EXAMPLES, LISTING
 from files.generate import FILES
 from readings import meaning, mirror
 from readings.lexical import Kind, Way, outerOf
-from readings.meaning import sites
+from readings.meaning import sitesOf
 from words import answer, declaration, plan, plan_bytes, readers
 
 HERE = Path(__file__).resolve().parent
@@ -105,7 +105,7 @@ class Laws(unittest.TestCase):
             of_binding, of_global = readers.readers(r.records, r.file.globals)
             self.assertEqual(sorted(chain(*of_binding, *of_global)), sorted(row[0] for row in r.records.answers))
             meant = {}
-            for site in sites(r.file.names, r.file.root, Way.plain, 0, [], ()):
+            for site in sitesOf(r.file):
                 kind, what = meaning.meaning(outerOf(r.file), site)
                 if kind is Kind.local:
                     meant.setdefault(what[1], []).append(site.node)
