@@ -16,6 +16,7 @@ from pathlib import Path
 from files import stream
 
 END = b"\xff" * 4
+ON_ERROR = b"standard error: "
 JOBS = 2  # commands that run at the same time
 VAIB = f"{Path(__file__).resolve().parents[2]}/tools/run vaib"
 
@@ -61,10 +62,11 @@ class Numbers(Batch):
 
 class Each:
     """A command that reads one file and writes its answer; it may end with one of these statuses. `further` gives more
-    words for a file; bytes among them are put into a file, whose path is the word."""
+    words for a file; bytes among them are put into a file, whose path is the word. With `errors` what it writes to
+    standard error belongs to its answer."""
 
-    def __init__(self, command, statuses=(0,), further=lambda data: []):
-        self.command, self.statuses, self.further = shlex.split(command), statuses, further
+    def __init__(self, command, statuses=(0,), further=lambda data: [], errors=False):
+        self.command, self.statuses, self.further, self.errors = shlex.split(command), statuses, further, errors
 
     def answers(self, files):
         with ThreadPoolExecutor(JOBS) as pool:
@@ -73,8 +75,10 @@ class Each:
     def answer(self, data):
         with ExitStack() as lent:
             words = [path_of(lent, word) if isinstance(word, bytes) else word for word in self.further(data)]
-            done = subprocess.run(self.command + words, input=data, stdout=subprocess.PIPE)
-        return done.stdout if done.returncode in self.statuses else no_answer(done.returncode)
+            done = subprocess.run(self.command + words, input=data, capture_output=True)
+        if done.returncode not in self.statuses:
+            return no_answer(done.returncode) + done.stderr
+        return done.stdout + (ON_ERROR + done.stderr if self.errors and done.stderr else b"")
 
 
 def path_of(lent, data):

@@ -20,7 +20,7 @@ AGAIN = script(Def(Name("f"), Block(Assign(Name("x"), Other()), Assign(Name("g")
 
 
 def asked(data):
-    return data, answer.text(data), plan_bytes.text(data)
+    return data, answer.text(data), plan_bytes.packed(data)
 
 
 class Frames(unittest.TestCase):

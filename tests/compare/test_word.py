@@ -7,7 +7,9 @@ import tempfile
 import unittest
 from pathlib import Path
 
+import words
 from compare.programs import Each
+from files.examples import FIRST
 from readings.second_judge import judge
 
 HERE = Path(__file__).resolve().parent
@@ -21,6 +23,14 @@ class Further(unittest.TestCase):
     def test_words_and_files(self):
         program = Each("sh -c 'echo $1; cat $2 -' sh", further=lambda data: [str(len(data)), b"lent "])
         self.assertEqual(program.answers([b"one", b"three"]), [b"3\nlent one", b"5\nlent three"])
+
+
+    def test_standard_error(self):
+        said = Each("sh -c 'echo here; echo there >&2'", errors=True).answers([b""])
+        self.assertEqual(said, [b"here\nstandard error: there\n"])
+        for word in ("plan-bytes", "plan"):
+            said = Each(f"{RIGHT} {word}", errors=True).answers([b"", FIRST])
+            self.assertEqual(said, [words.module(word).text(data) for data in (b"", FIRST)])
 
 
 class Program(unittest.TestCase):

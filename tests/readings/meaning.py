@@ -82,12 +82,12 @@ def sites(N, forest, w, s, ts, up, wanted):
         yield from sites(N, x.kids, way(x.kind), x.value, targets(N, x.kind, x.kids), here, wanted)
 
 
-def idents(F):
+def sitesOf(F):
     """The Idents of a file, in node order."""
     return sites(F.names, F.root, Way.plain, 0, [], (), lambda k: way(k) is Way.look)
 
 
-def names(F):
+def namesOf(F):
     """The Names of a file, in node order."""
     return sites(F.names, F.root, Way.plain, 0, [], (), lambda k: pick(k) is Pick.name)
 
@@ -140,7 +140,7 @@ def check_names(F, st):
     rows = {x.node: x.of for x in st.named}
     entries = {e.name: e for e in F.entries}
     root = collect(F.names, unmarked, F.root)
-    for site in names(F):
+    for site in namesOf(F):
         b, block = rows.pop(site.node), blockOf(site.above)
         if block is None:
             assert not b.local and b.var == made(entries.get(site.name), root, site.name), (site, b)
@@ -166,7 +166,7 @@ def check_idents(F, st):
     events = {e.node: e for e in st.log}
     incoming = {(c.scope, c.child): c.parent for c in reversed(st.copies)}
     needed = set()
-    for site in idents(F):
+    for site in sitesOf(F):
         e = events.pop(site.node)
         kind, what = meaning(out, site)
         assert e.name == site.name and e.scopes == scopesOf(site.above), (e, site)

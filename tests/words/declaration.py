@@ -7,7 +7,7 @@ and, by demand 2's definition, reaches the node." A local refused in a type has 
 
 from readings import mirror, second_judge
 from readings.lexical import Outer, moduleVars, outerOf
-from readings.meaning import declared, idents
+from readings.meaning import declared, sitesOf
 from words import lines
 
 
@@ -26,7 +26,7 @@ def outside(F):
 def declarations(F):
     """What declares each Ident, by its node."""
     found, of = {}, outside(F)
-    for site in idents(F):
+    for site in sitesOf(F):
         local = declared(site.name, site.above)
         found[site.node] = b"name %d" % local[1] if local else of(site.name)
     return found

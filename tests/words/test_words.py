@@ -15,7 +15,7 @@ from files.examples import EXAMPLES, LISTING
 from files.generate import FILES
 from readings import meaning, mirror
 from readings.lexical import Kind, Way, outerOf
-from readings.meaning import idents
+from readings.meaning import sitesOf
 from words import answer, declaration, plan, plan_bytes, readers
 
 HERE = Path(__file__).resolve().parent
@@ -87,8 +87,8 @@ class Examples(unittest.TestCase):
 
     def test_refused(self):
         for word in words.WORDS:
-            said = {"answer": answer.text(b"")[:32], "plan-bytes": b""}.get(word, b"answer 2\n")
-            self.assertTrue(words.module(word).text(b"").startswith(said))
+            said = {"answer": answer.text(b""), "plan-bytes": b"standard error: answer 2\n"}.get(word, b"answer 2\n")
+            self.assertEqual(words.module(word).text(b""), said)
         self.assertEqual(answer.text(b""), bytes([0, 0, 0, 2]) + bytes(77852))
         self.assertEqual([plan.text(data) for data in corners("plan")].count(b"answer 15\n"), 12)
 
@@ -105,7 +105,7 @@ class Laws(unittest.TestCase):
             of_binding, of_global = readers.readers(r.records, r.file.globals)
             self.assertEqual(sorted(chain(*of_binding, *of_global)), sorted(row[0] for row in r.records.answers))
             meant = {}
-            for site in idents(r.file):
+            for site in sitesOf(r.file):
                 kind, what = meaning.meaning(outerOf(r.file), site)
                 if kind is Kind.local:
                     meant.setdefault(what[1], []).append(site.node)
@@ -137,7 +137,7 @@ class Laws(unittest.TestCase):
                 for scope, parent, child in r.records.copies:
                     self.assertIn(child, boxed[scope])
                     self.assertIn(parent, boxed[around[scope]])
-                packed = plan_bytes.text(data)
+                packed = plan_bytes.packed(data)
                 self.assertEqual([plan.Frame(*record) for record in struct.iter_unpack(">BBQQ", packed)], found)
 
 
