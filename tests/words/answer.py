@@ -1,5 +1,6 @@
 """`vaib answer`: number and counts, then the seven answer buffers of document 01, packed and at their full lengths."""
 
+import ctypes
 import struct
 from typing import NamedTuple
 
@@ -55,6 +56,23 @@ def text(data):
     tables = [nodes, [(*row, 0) for row in rec.bindings], module, rec.scopes, rec.slots, rec.copies, rec.errors]
     counts = [len(rows) for rows in (rec.bindings, module, rec.slots, rec.copies, rec.errors)]
     return packed((0, *counts, 0, 0), tables)
+
+
+ELEMENT = {"I": ctypes.c_uint32, "Q": ctypes.c_uint64}
+COUNTS = 6  # numbers of a struct vaib_answer
+
+
+def ask(library, data):
+    """The same from vaib_resolve, into buffers full of ones."""
+    resolve, lent, answer = library.vaib_resolve, [], (ctypes.c_uint64 * COUNTS)()
+    for kind in BUFFERS.values():
+        lent.append((ELEMENT[kind.form] * kind.length)())
+        ctypes.memset(lent[-1], 255, ctypes.sizeof(lent[-1]))
+    slice_ = [ctypes.c_void_p, ctypes.c_size_t]
+    resolve.argtypes = [ctypes.c_char_p, ctypes.c_size_t, *slice_ * len(lent), ctypes.c_void_p]
+    resolve(data, len(data), *(part for one in lent for part in (one, len(one))), answer)
+    buffers = (struct.pack(f">{kind.length}{kind.form}", *one) for kind, one in zip(BUFFERS.values(), lent))
+    return struct.pack(HEAD, *answer, 0, 0) + b"".join(buffers)
 
 
 def rows(answer, wanted):
