@@ -2,7 +2,7 @@
 
 import unittest
 
-import believe
+from documents import believe
 
 SPECS = """-- A file.
 use mathlib.Core.List.{List}

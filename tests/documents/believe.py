@@ -18,7 +18,7 @@ import sys
 from pathlib import Path
 from typing import NamedTuple
 
-TOP = Path(__file__).resolve().parent.parent
+TOP = Path(__file__).resolve().parents[2]
 CRATES = TOP / "crates"
 THEOREMS = ("Theorems", "Whole")
 THEORY = ("lexical",)  # no bytes: its theorems are said again of them
