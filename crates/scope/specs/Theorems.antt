@@ -3,7 +3,7 @@
 --     demand 2   T1, T1-errors, T1-names, T1-others, T1-captured, reads-back       each node's record, each error and each binding against the definition of what a name means
 --     demand 3   T2, T3, T3-met                                                    the copies lead from an answer to the variable, and no scheme copies less
 use Prim.Native.Nat.{ℕ, _<_, _≤_}
-use mathlib.Core.Path.{_≡_, refl, sym, _∙_, subst}
+use mathlib.Core.Path.{_≡_, sym, _∙_, subst}
 use mathlib.Core.List.{List, [], _∷_, map}
 use mathlib.Core.Option.{some}
 use native.Mathlib.Omega.{arith}
