@@ -5,7 +5,8 @@ pub mod Descent
 pub mod Levels
 pub mod Opens
 pub mod Above
-pub mod Laws
+pub mod ScopesLaws
+pub mod Few
 pub mod OuterLaws
 pub mod Table
 pub mod Theorems

@@ -31,14 +31,14 @@ loop-less : tie.Need-loop-less Inv-loop μ-loop
 loop-less c =
     let e = c .before in
     let l = e .before .before .before in
-    let z = going-past (l .before .loop .inv) (l .loop-test .taken) (e .end-in .result) (ended (l .before .before .before .before .args .ns .now) (l .before .loop .p) (l .before .loop .e) (e .before .before .node .ensures) (e .before .size .ensures) (e .end-in .ensures)) in
+    let z = going-past (l .before .loop .inv) (omega (arith, l .loop-test .taken)) (e .end-in .result) (ended (l .before .before .before .before .args .ns .now) (l .before .loop .p) (l .before .loop .e) (e .before .before .node .ensures) (e .before .size .ensures) (e .end-in .ensures)) in
     omega (arith, z, l .loop-test .taken)
 
 loop-again : tie.Need-loop-again Inv-loop μ-loop
 loop-again c =
     let e = c .before in
     let l = e .before .before .before in
-    going-next (l .before .loop .inv) (l .loop-test .taken) (e .end-in .result) (ended (l .before .before .before .before .args .ns .now) (l .before .loop .p) (l .before .loop .e) (e .before .before .node .ensures) (e .before .size .ensures) (e .end-in .ensures)) (c .if1 .taken)
+    going-next (l .before .loop .inv) (omega (arith, l .loop-test .taken)) (e .end-in .result) (ended (l .before .before .before .before .args .ns .now) (l .before .loop .p) (l .before .loop .e) (e .before .before .node .ensures) (e .before .size .ensures) (e .end-in .ensures)) (c .if1 .taken)
 
 push-requires : tie.Need-push-requires Inv-loop μ-loop
 push-requires c κs =
@@ -77,7 +77,7 @@ loop-again-2 c =
     let g = l .before .loop .inv in
     let ns = l .before .before .before .before .args .ns .now in
     let p = l .before .loop .p in
-    going-in g (l .loop-test .taken) (e .end-in .result) (ended ns p (l .before .loop .e) (n .node .ensures) (e .before .size .ensures) (e .end-in .ensures)) (i .if1 .left)
+    going-in g (omega (arith, l .loop-test .taken)) (e .end-in .result) (ended ns p (l .before .loop .e) (n .node .ensures) (e .before .size .ensures) (e .end-in .ensures)) (i .if1 .left)
     (c .before .is-scope .result) (scoped ns p (n .node .ensures) (k .kind .ensures) (c .before .is-scope .ensures))
     (c .value .result) (c .value .ensures .is ∙ ap valueOf (n .node .ensures))
     (u .push .result) (u .push .last .0) (u .push .ensures (g .found) (going-held g))
@@ -86,7 +86,7 @@ same-length : tie.Need-same-length Inv-loop μ-loop
 same-length c = going-long (c .before .loop .inv)
 
 returns : tie.Need-returns Inv-loop μ-loop
-returns c = going-end (c .before .loop .inv) (c .loop-test .left)
+returns c = going-end (c .before .loop .inv) (omega (arith, c .loop-test .left))
 
 pub descend-spec : {M : Type 1} → statement M
 descend-spec =
