@@ -1,5 +1,5 @@
 -- The laws of a record's fields, each once over the widths and the place of the field.
---     part-packed                    reading what was packed gives it back
+--     unpack-packed, part-packed     reading what was packed gives it back
 --     part-changed, part-other       reading a replaced field gives the value, and every other field stays
 --     changed-packed                 a packed row with a field replaced is the row with that value, packed
 --     changed-sum, changed-is        replacing a field moves the number by the values' difference, times the field's weight
@@ -53,7 +53,7 @@ fields-set (w ∷ ws) (x ∷ row) (suc k) v h = ap (_∷_ (w, x)) (fields-set ws
 -- ---- packed, then read
 
 module _ (ws row : List ℕ) (h : Narrow (fields ws row)) where
-  unpack-packed : unpack ws (packed ws row) ≡ values (fields ws row)
+  pub unpack-packed : unpack ws (packed ws row) ≡ values (fields ws row)
   unpack-packed = subst (λ (l : List ℕ). unpack l (packed ws row) ≡ values (fields ws row)) (fields-widths ws row) (unpack-pack (fields ws row) h)
 
   pub part-packed : (k : ℕ) → k < length ws → part ws k (packed ws row) ≡ getD row k 0

@@ -1,6 +1,6 @@
 // Following copies outward: from a slot of a scope to the scope and the slot that its value comes from.
 ghost use mathlib.Core.Path.{_≡_};
-ghost use Prim.Native.Nat.{_+_, _≤_, _<_};
+ghost use Prim.Native.Nat.{_+_, _<_};
 ghost use Rattle.lexical.specs.Follow.{copyTo, fromIn};
 ghost use Rattle.follow.specs.Place.{copyOf, copiesOf, fromOf, followed};
 use answer::LocalSlotId;

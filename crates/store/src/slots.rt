@@ -6,9 +6,9 @@ ghost use Rattle.lexical.specs.Third.{handIn};
 ghost use Rattle.answer.specs.Records.{scopeSlots, slotScope};
 ghost use Rattle.store.specs.Words.{pairWord, copiedWord, moreWord, paramsWord};
 ghost use Rattle.store.specs.Hands.{handOf, Slotted};
-use answer::LocalSlotId;
 use crate::ids::Hand;
 use crate::wide::wide;
+use answer::LocalSlotId;
 
 // The slot that the next variable of a scope gets.
 pub fn fresh_slot(w: &[u32], scope: usize) -> usize

@@ -26,13 +26,13 @@ use Rattle.lexical.specs.Proof.Last.{last}
 use Rattle.lexical.specs.Proof.Outcome.{event-of, meaning-of, means-local, means-refused, means-outside}
 use Rattle.nodefile.specs.Layout.{nodeCount}
 use Rattle.nodefile.specs.FileOf.{fileOf}
-use Rattle.scope.specs.declared.Answer.{Answer}
-use Rattle.scope.specs.Buffers.{Buffers}
+use Rattle.answer.specs.declared.Answer.{Answer}
+use Rattle.answer.specs.Buffers.{Buffers}
 use Rattle.scope.specs.Answer.{Given}
 use Rattle.scope.specs.Ready.{Ready}
-use Rattle.scope.specs.Shown.{bindingFields, CapturedShown}
+use Rattle.promise.specs.Shown.{bindingFields, CapturedShown}
 use Rattle.scope.specs.Laws.Readies.{ready-scoped, ready-distinct}
-use Rattle.scope.specs.Laws.Records.{bindings-back}
+use Rattle.promise.specs.Laws.Records.{bindings-back}
 
 -- ---- a Name declares a local of one scope only: its binding's
 

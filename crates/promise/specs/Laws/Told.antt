@@ -21,18 +21,18 @@ use Rattle.lexical.specs.Proof.Last.{last}
 use Rattle.nodefile.specs.Layout.{nodeCount}
 use Rattle.nodefile.specs.FileOf.{fileOf}
 use Rattle.follow.specs.Place.{placeOf}
-use Rattle.scope.specs.declared.Answer.{Answer}
-use Rattle.scope.specs.Buffers.{Buffers}
+use Rattle.answer.specs.declared.Answer.{Answer}
+use Rattle.answer.specs.Buffers.{Buffers}
 use Rattle.scope.specs.Answer.{Given}
 use Rattle.scope.specs.Ready.{Ready}
-use Rattle.scope.specs.Shown.{nodeFields, ErrorShown, Shown, Homeward}
+use Rattle.promise.specs.Shown.{nodeFields, ErrorShown, Shown, Homeward}
 use Rattle.scope.specs.Laws.Readies.{ready-scoped, ready-headed, ready-distinct}
 use Rattle.scope.specs.Laws.Rows.{rowsOf, error-none}
 use Rattle.scope.specs.Laws.Lists.{row-in}
-use Rattle.scope.specs.Laws.Events.{node-small, answer-bounds}
-use Rattle.scope.specs.Laws.Sites.{Lookup}
-use Rattle.scope.specs.Packed.{nodeWidths}
-use Rattle.scope.specs.Laws.Records.{node-at, node-read, errors-back, bound-so, copies-follow}
+use Rattle.promise.specs.Laws.Events.{node-small, answer-bounds}
+use Rattle.promise.specs.Laws.Sites.{Lookup}
+use Rattle.answer.specs.Records.{nodeWidths}
+use Rattle.promise.specs.Laws.Records.{node-at, node-read, errors-back, bound-so, copies-follow}
 
 module _ {bs : List ℕ} {root : Forest} (q : Ready bs root) (few : length (resolved (fileOf bs root) .slots) ≤ 4096) {b b′ : Buffers} {a : Answer} (g : Given (fileOf bs root) (nodeCount bs) b a b′) where
   abbrev F : File

@@ -21,12 +21,13 @@ use Rattle.lexical.specs.Code.Numbers.{made-start, fresh-all}
 use Rattle.nodefile.specs.Reads.{countOf}
 use Rattle.nodefile.specs.FileOf.{fileOf}
 use Rattle.nodefile.specs.FileLaws.{tree-count}
-use Rattle.scope.specs.Packed.{fields, bindingWidths, entryWidths, pairWidths, copyWidths}
+use Rattle.answer.specs.Fields.{fields}
+use Rattle.answer.specs.Records.{bindingWidths, entryWidths, pairWidths, copyWidths}
 use Rattle.scope.specs.Ready.{Ready}
 use Rattle.scope.specs.Laws.Lists.{row-from}
-use Rattle.scope.specs.Laws.Words.{bit-below}
+use Rattle.store.specs.Laws.Made.{bit-below}
 use Rattle.scope.specs.Laws.Bounds.{made-bounds, slot-bounds, copy-bounds}
-use Rattle.scope.specs.Laws.Events.{node-small, error-one, error-fits}
+use Rattle.promise.specs.Laws.Events.{node-small, error-one, error-fits}
 
 abbrev pub Fit : List ℕ → List ℕ → Type 0
 Fit ws row = Narrow (fields ws row)

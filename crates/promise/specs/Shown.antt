@@ -20,9 +20,10 @@ use Rattle.lexical.specs.Records.{Records}
 use Rattle.lexical.specs.Schemes.{Scheme, AtHand}
 use Rattle.lexical.specs.Claims.{ancestors, stepsOf, sitesOf, source, moduleNames, NotModule, NotGlobal, Across, Inside}
 use Rattle.follow.specs.Place.{followed, placeOf}
-use Rattle.scope.specs.declared.Answer.{Answer}
-use Rattle.scope.specs.Buffers.{Buffers}
-use Rattle.scope.specs.Packed.{fields, bindingWidths, entryWidths, pairWidths, copyWidths, nodeWidths}
+use Rattle.answer.specs.declared.Answer.{Answer}
+use Rattle.answer.specs.Buffers.{Buffers}
+use Rattle.answer.specs.Fields.{fields}
+use Rattle.answer.specs.Records.{bindingName, bindingSource, bindingCaptured, bindingLocal, bindingSlot, bindingWidths, entryWidths, pairWidths, copyWidths, nodeWidths}
 
 -- node x: class, slot or global, binding
 abbrev pub nodeFields : Buffers → ℕ → List ℕ
@@ -37,19 +38,19 @@ abbrev pub bindingFields : Buffers → ℕ → List ℕ
 bindingFields b k = unpack bindingWidths (getD (b .bindings) k 0)
 
 abbrev pub nameOf : Buffers → ℕ → ℕ
-nameOf b k = getD (bindingFields b k) 0 0
+nameOf b k = bindingName (getD (b .bindings) k 0)
 
 abbrev pub sourceOf : Buffers → ℕ → ℕ
-sourceOf b k = getD (bindingFields b k) 1 0
+sourceOf b k = bindingSource (getD (b .bindings) k 0)
 
 abbrev pub capturedOf : Buffers → ℕ → ℕ
-capturedOf b k = getD (bindingFields b k) 5 0
+capturedOf b k = bindingCaptured (getD (b .bindings) k 0)
 
 abbrev pub localOf : Buffers → ℕ → ℕ
-localOf b k = getD (bindingFields b k) 6 0
+localOf b k = bindingLocal (getD (b .bindings) k 0)
 
 abbrev pub slotOf : Buffers → ℕ → ℕ
-slotOf b k = getD (bindingFields b k) 7 0
+slotOf b k = bindingSlot (getD (b .bindings) k 0)
 
 -- the copies' records
 abbrev pub copyRecords : Answer → Buffers → List ℕ

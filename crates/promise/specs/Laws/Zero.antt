@@ -12,12 +12,12 @@ use Rattle.nodefile.specs.Layout.{nodesOf}
 use Rattle.nodefile.specs.Reads.{Reads}
 use Rattle.nodefile.specs.FileOf.{fileOf}
 use Rattle.judge.specs.Cond.{Judged}
-use Rattle.scope.specs.declared.Answer.{Answer}
-use Rattle.scope.specs.Buffers.{Buffers}
+use Rattle.answer.specs.declared.Answer.{Answer}
+use Rattle.answer.specs.Buffers.{Buffers}
 use Rattle.scope.specs.Answer.{many-slots, Cond, Resolves}
 use Rattle.scope.specs.Ready.{Ready}
 use Rattle.scope.specs.Laws.Accepts.{judged-ready}
 use Rattle.scope.specs.Laws.Conditions.{zero-judged, zero-few}
 
 module _ {bs : List ℕ} {b b′ : Buffers} {a : Answer} (r : Resolves bs b a b′) (z : a .number ≡ 0) where
   none-holds : Smallest (Cond bs b) 13 0

@@ -22,22 +22,22 @@ use Rattle.nodefile.specs.Reads.{Reads}
 use Rattle.nodefile.specs.FileOf.{fileOf}
 use Rattle.nodefile.specs.Listed.{kindAt, valueAt}
 use Rattle.follow.specs.Place.{copiesOf}
-use Rattle.scope.specs.declared.Answer.{Answer}
-use Rattle.scope.specs.Buffers.{Buffers, Front}
-use Rattle.scope.specs.Packed.{pairOf}
+use Rattle.answer.specs.declared.Answer.{Answer}
+use Rattle.answer.specs.Buffers.{Buffers, Front}
+use Rattle.answer.specs.Records.{pairOf}
 use Rattle.scope.specs.Answer.{Cond, Given, Resolves}
 use Rattle.scope.specs.Ready.{Ready}
-use Rattle.scope.specs.Shown.{nodeFields, copyRecords, nodesAround, Told, NameShown, CapturedShown, Homeward, ServesAll, lists, AllBack}
+use Rattle.promise.specs.Shown.{nodeFields, copyRecords, nodesAround, Told, NameShown, CapturedShown, Homeward, ServesAll, lists, AllBack}
 use Rattle.scope.specs.Laws.Accepts.{judged-tree}
 use Rattle.scope.specs.Laws.Readies.{ready-scoped, ready-distinct, ready-length}
-use Rattle.scope.specs.Laws.Sites.{ident-event}
-use Rattle.scope.specs.Laws.Zero.{zero-accepted, zero-ready, zero-slots}
-use Rattle.scope.specs.Laws.One.{same-answer}
-use Rattle.scope.specs.Laws.Records.{back, copies-into}
-use Rattle.scope.specs.Laws.Told.{ident-shown, homeward}
-use Rattle.scope.specs.Laws.Named.{name-shown, other-empty}
-use Rattle.scope.specs.Laws.Captured.{captured-shown}
-use Rattle.scope.specs.Laws.Least.{serves-lookups, serves-idents}
+use Rattle.promise.specs.Laws.Sites.{ident-event}
+use Rattle.promise.specs.Laws.Zero.{zero-accepted, zero-ready, zero-slots}
+use Rattle.promise.specs.Laws.One.{same-answer}
+use Rattle.promise.specs.Laws.Records.{back, copies-into}
+use Rattle.promise.specs.Laws.Told.{ident-shown, homeward}
+use Rattle.promise.specs.Laws.Named.{name-shown, other-empty}
+use Rattle.promise.specs.Laws.Captured.{captured-shown}
+use Rattle.promise.specs.Laws.Least.{serves-lookups, serves-idents}
 
 -- A file and buffers of which no condition is true get 0: nothing is refused without its cause.
 pub none-true : {bs : List ℕ} {b b′ : Buffers} {a : Answer} → Resolves bs b a b′ → Clear (Cond bs b) 13 → a .number ≡ 0

@@ -20,17 +20,17 @@ use Rattle.nodefile.specs.Layout.{nodeCount, nodesOf}
 use Rattle.nodefile.specs.Order.{spot-at}
 use Rattle.nodefile.specs.FileOf.{fileOf}
 use Rattle.nodefile.specs.Listed.{kindAt, valueAt, listed-in, in-listed}
-use Rattle.scope.specs.declared.Answer.{Answer}
-use Rattle.scope.specs.Buffers.{Buffers}
+use Rattle.answer.specs.declared.Answer.{Answer}
+use Rattle.answer.specs.Buffers.{Buffers}
 use Rattle.scope.specs.Answer.{Given}
 use Rattle.scope.specs.Ready.{Ready}
-use Rattle.scope.specs.Shown.{nodeFields, NameShown}
+use Rattle.promise.specs.Shown.{nodeFields, NameShown}
 use Rattle.scope.specs.Laws.Readies.{ready-scoped, ready-headed, ready-distinct, ready-length}
 use Rattle.scope.specs.Laws.Rows.{rowsOf, answer-other}
 use Rattle.scope.specs.Laws.Targets.{each-spots}
 use Rattle.scope.specs.Laws.Fitting.{Fits, resolved-fit}
-use Rattle.scope.specs.Laws.Events.{name-bounds}
-use Rattle.scope.specs.Laws.Records.{node-at, node-read, bound-so}
+use Rattle.promise.specs.Laws.Events.{name-bounds}
+use Rattle.promise.specs.Laws.Records.{node-at, node-read, bound-so}
 
 module _ {bs : List ℕ} {root : Forest} (q : Ready bs root) (few : length (resolved (fileOf bs root) .slots) ≤ 4096) {b b′ : Buffers} {a : Answer} (g : Given (fileOf bs root) (nodeCount bs) b a b′) where
   abbrev F : File

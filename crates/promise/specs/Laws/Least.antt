@@ -19,7 +19,7 @@ use Rattle.lexical.specs.Proof.Captured.{source-unique}
 use Rattle.lexical.specs.Proof.Chains.{Led}
 use Rattle.lexical.specs.Proof.Last.{last}
 use Rattle.lexical.specs.Proof.Outcome.{site-of, event-of, scopes-of, meaning-of, means-local, means-refused, means-outside}
-use Rattle.scope.specs.Shown.{ServesAll}
+use Rattle.promise.specs.Shown.{ServesAll}
 
 module _ (F : File) (ok : Scoped F) (S : Scheme) where
   -- the local of a lookup is what the Ident there means

@@ -23,20 +23,22 @@ use Rattle.nodefile.specs.Layout.{nodeCount}
 use Rattle.nodefile.specs.FileOf.{fileOf}
 use Rattle.store.specs.Words.{rowNode}
 use Rattle.follow.specs.Place.{copiesOf, followed, placeOf}
-use Rattle.scope.specs.declared.Answer.{Answer}
-use Rattle.scope.specs.Buffers.{Buffers, Front}
-use Rattle.scope.specs.Packed.{packed, bindingWidths, entryWidths, pairWidths, copyWidths, nodeWidths, answerOf, nodeAnswer}
+use Rattle.answer.specs.declared.Answer.{Answer}
+use Rattle.answer.specs.Buffers.{Buffers, Front}
+use Rattle.answer.specs.Fields.{packed}
+use Rattle.answer.specs.Records.{bindingWidths, entryWidths, pairWidths, copyWidths, nodeWidths}
+use Rattle.scope.specs.Nodes.{answerOf, nodeAnswer}
 use Rattle.scope.specs.Answer.{Given}
 use Rattle.scope.specs.Ready.{Ready}
-use Rattle.scope.specs.Shown.{nodeFields, copyRecords, BindingShown, ReadsBack, lists, AllBack}
+use Rattle.promise.specs.Shown.{nodeFields, copyRecords, BindingShown, ReadsBack, lists, AllBack}
 use Rattle.scope.specs.Laws.Front.{front-get}
 use Rattle.scope.specs.Laws.Readies.{ready-scoped, ready-headed, ready-distinct}
 use Rattle.scope.specs.Laws.Rows.{rowsOf, answer-at}
 use Rattle.scope.specs.Laws.Bounds.{copy-bounds}
-use Rattle.scope.specs.Laws.Events.{RowFits}
-use Rattle.scope.specs.Laws.Reading.{packed-read, front-read}
-use Rattle.scope.specs.Laws.Narrow.{Fit, bindings-narrow, entries-narrow, scopes-narrow, slots-narrow, copies-narrow, errors-narrow}
-use Rattle.scope.specs.Laws.Copies.{follow-read, into-read}
+use Rattle.promise.specs.Laws.Events.{RowFits}
+use Rattle.promise.specs.Laws.Reading.{packed-read, front-read}
+use Rattle.promise.specs.Laws.Narrow.{Fit, bindings-narrow, entries-narrow, scopes-narrow, slots-narrow, copies-narrow, errors-narrow}
+use Rattle.promise.specs.Laws.Copies.{follow-read, into-read}
 
 -- a list of rows that fit, packed to the front of a buffer
 list-back : (ws : List ℕ) (rows : List (List ℕ)) (l : List ℕ) (n : ℕ) → Front l n (map (packed ws) rows) → All (Fit ws) rows → ReadsBack ws rows l

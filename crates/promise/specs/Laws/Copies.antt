@@ -2,14 +2,14 @@
 --     copies-read   the copies' records
 --     follow-read   following them
 --     into-read     how many are into a scope
-use Prim.Native.Nat.{ℕ, suc, _/_, _%_, _<_}
+use Prim.Native.Nat.{ℕ, suc, _<_}
 use mathlib.Core.Path.{_≡_, refl, sym, ap, _∙_}
 use mathlib.Core.Bool.{cond}
 use mathlib.Core.List.{List, [], _∷_, map, map-map, reverse, reverse-reverse}
 use mathlib.Core.Option.{Option, none, some}
 use native.Mathlib.Omega.{arith}
 use lib.Dec.{eqb}
-use lib.ListN.{length, take, length-map}
+use lib.ListN.{length, getD, take, length-map}
 use lib.Seq.{take-at}
 use Rattle.lexical.specs.Lists.{first, count, mapO-cond}
 use Rattle.lexical.specs.Places.{All}
@@ -20,8 +20,10 @@ use Rattle.lexical.specs.Records.{copyRow}
 use Rattle.target.specs.Alike.{map-like}
 use Rattle.follow.specs.Place as place
 use Rattle.follow.specs.Place.{copiesOf, followed, placeOf}
-use Rattle.scope.specs.Buffers.{Front}
-use Rattle.scope.specs.Packed.{copyOf}
+use Rattle.answer.specs.Buffers.{Front}
+use Rattle.answer.specs.Fields.{part}
+use Rattle.answer.specs.Records.{copyWidths, copyOf, copyScope, copyParent, copyChild}
+use Rattle.answer.specs.Laws.{part-packed}
 
 -- a copy without its binding, which its record does not tell
 abbrev bare : Copy → Copy
@@ -32,10 +34,13 @@ CopyFits c = (c .scope < 256) × (c .parent < 4096) × (c .child < 4096)
 
 copy-read : (c : Copy) → CopyFits c → place.copyOf (copyOf (copyRow c)) ≡ bare c
 copy-read c h =
-    let x : copyOf (copyRow c) / 16777216 ≡ c .scope = omega arith in
-    let y : copyOf (copyRow c) / 4096 % 4096 ≡ c .parent = omega arith in
-    let z : copyOf (copyRow c) % 4096 ≡ c .child = omega arith in
+    let x : copyScope (copyOf (copyRow c)) ≡ c .scope = read 0 (omega arith) in
+    let y : copyParent (copyOf (copyRow c)) ≡ c .parent = read 1 (omega arith) in
+    let z : copyChild (copyOf (copyRow c)) ≡ c .child = read 2 (omega arith) in
     rw (x, y, z)
+  where
+    read : (k : ℕ) → k < 3 → part copyWidths k (copyOf (copyRow c)) ≡ getD (copyRow c) k 0
+    read = part-packed copyWidths (copyRow c) (h .0, (h .1, (h .2, tt)))
 
 from-bare : (s k : ℕ) (cs : List Copy) → fromIn s k (map bare cs) ≡ fromIn s k cs
 unfolding fromIn first copyTo

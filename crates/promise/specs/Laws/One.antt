@@ -4,11 +4,11 @@ use mathlib.Core.Path.{_≡_, sym, _∙_}
 use mathlib.Core.List.{List}
 use native.Mathlib.Decide.{ℕ-discrete}
 use Rattle.base.specs.Smallest.{smallest-one}
-use Rattle.scope.specs.declared.Answer.{Answer}
-use Rattle.scope.specs.Buffers.{Buffers, buffers}
+use Rattle.answer.specs.declared.Answer.{Answer}
+use Rattle.answer.specs.Buffers.{Buffers, buffers}
 use Rattle.scope.specs.Answer.{Resolves}
 use Rattle.scope.specs.Laws.Accepts.{judged-tree}
-use Rattle.scope.specs.Laws.Zero.{zero-accepted}
+use Rattle.promise.specs.Laws.Zero.{zero-accepted}
 
 answer-same : {a c : Answer} → a .number ≡ c .number → a .bindings ≡ c .bindings → a .«module» ≡ c .«module» → a .slots ≡ c .slots → a .copies ≡ c .copies → a .errors ≡ c .errors → a ≡ c
 answer-same {a} {c} n b m s k e =
