@@ -27,6 +27,7 @@ use Rattle.answer.specs.declared.Answer.{Answer}
 use Rattle.answer.specs.Buffers.{Buffers, Front}
 use Rattle.answer.specs.Fields.{packed}
 use Rattle.answer.specs.Records.{bindingWidths, entryWidths, pairWidths, copyWidths, nodeWidths}
+use Rattle.answer.specs.Laws.{unpack-packed}
 use Rattle.scope.specs.Nodes.{answerOf, nodeAnswer}
 use Rattle.scope.specs.Answer.{Given}
 use Rattle.scope.specs.Ready.{Ready}
@@ -36,7 +37,7 @@ use Rattle.scope.specs.Laws.Readies.{ready-scoped, ready-headed, ready-distinct
 use Rattle.scope.specs.Laws.Rows.{rowsOf, answer-at}
 use Rattle.scope.specs.Laws.Bounds.{copy-bounds}
 use Rattle.promise.specs.Laws.Events.{RowFits}
-use Rattle.promise.specs.Laws.Reading.{packed-read, front-read}
+use Rattle.promise.specs.Laws.Reading.{front-read}
 use Rattle.promise.specs.Laws.Narrow.{Fit, bindings-narrow, entries-narrow, scopes-narrow, slots-narrow, copies-narrow, errors-narrow}
 use Rattle.promise.specs.Laws.Copies.{follow-read, into-read}
 
@@ -82,7 +83,7 @@ module _ {bs : List ℕ} {root : Forest} (q : Ready bs root) (few : length (reso
   pub node-read : (k : ℕ) (row : List ℕ) → getElem? (rowsOf F) k ≡ some row → rowNode row < nodeCount bs → RowFits row → nodeFields b′ (rowNode row) ≡ getD row 1 0 ∷ getD row 2 0 ∷ getD row 3 0 ∷ []
   unfolding answerOf
   node-read k row e h f = ap (unpack nodeWidths) (node-at (rowNode row) h ∙ answer-at F (ready-scoped q) (ready-headed q) (ready-distinct q) k row e)
-      ∙ packed-read nodeWidths (getD row 1 0 ∷ getD row 2 0 ∷ getD row 3 0 ∷ []) (f .0, (f .1, (f .2, tt)))
+      ∙ unpack-packed nodeWidths (getD row 1 0 ∷ getD row 2 0 ∷ getD row 3 0 ∷ []) (f .0, (f .1, (f .2, tt)))
 
   -- ---- a binding
 
