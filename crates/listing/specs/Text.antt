@@ -6,8 +6,8 @@ use lib.Dec.{eqb}
 use lib.ListN.{getD, take, replicate}
 use Rattle.nodefile.specs.Layout.{nodeCount}
 use Rattle.nodefile.specs.Listed.{scopeCount}
-use Rattle.scope.specs.declared.Answer.{Answer}
-use Rattle.scope.specs.Buffers.{Buffers, buffers}
+use Rattle.answer.specs.declared.Answer.{Answer}
+use Rattle.answer.specs.Buffers.{Buffers, buffers}
 use Rattle.scope.specs.Answer.{Resolves}
 use Rattle.text.specs.Bytes.{joined, each}
 use Rattle.text.specs.Window.{Window}

@@ -5,7 +5,7 @@ use mathlib.Core.List.{List, _++_}
 use native.Mathlib.Omega.{arith}
 use Rattle.base.specs.First.{First, NoneHolds, here, none-at, none-first, first-none, first-front, first-after, none-front, none-after}
 use Rattle.judge.specs.Cond.{judging, Judged}
-use Rattle.scope.specs.Buffers.{Buffers, Short}
+use Rattle.answer.specs.Buffers.{Buffers, Short}
 use Rattle.scope.specs.Answer.{ManySlots, bufferRows, walkRows, resolving}
 
 module _ (bs : List ℕ) (b : Buffers) where

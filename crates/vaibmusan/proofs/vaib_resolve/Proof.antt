@@ -40,9 +40,9 @@ use denote.Triple.Spec.{Meets, tripleOf}
 use denote.Triple.Table.{entered, cited}
 use denote.Triple.Walked.{says, Stays, stay-ref, stay-none-slice, gave-slice, walkOf, AllGo, goes-none-slice, goes-gave-slice, goes-ref, Walks, ends-at, walked, walk-meets}
 use denote.Exit.{yes}
-use Rattle.scope.specs.Buffers.{buffers}
+use Rattle.answer.specs.Buffers.{buffers}
 use Rattle.scope.specs.Answer.{Resolves}
-use Rattle.scope.specs.declared.Answer.{Answer}
+use Rattle.answer.specs.declared.Answer.{Answer}
 use Rattle.scope.proofs.Answer as T
 use Rattle.scope.proofs.Answer.Laws as T′
 use Rattle.scope.proofs.resolve as callee
