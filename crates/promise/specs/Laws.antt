@@ -3,8 +3,6 @@ pub mod Sites
 pub mod Events
 pub mod Reading
 pub mod Copies
-pub mod Zero
-pub mod One
 pub mod Narrow
 pub mod Records
 pub mod Told

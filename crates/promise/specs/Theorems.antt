@@ -32,8 +32,8 @@ use Rattle.promise.specs.Shown.{nodeFields, copyRecords, nodesAround, To
 use Rattle.scope.specs.Laws.Accepts.{judged-tree}
 use Rattle.scope.specs.Laws.Readies.{ready-scoped, ready-distinct, ready-length}
 use Rattle.promise.specs.Laws.Sites.{ident-event}
-use Rattle.promise.specs.Laws.Zero.{zero-accepted, zero-ready, zero-slots}
-use Rattle.promise.specs.Laws.One.{same-answer}
+use Rattle.scope.specs.Laws.Zero.{zero-accepted, zero-ready, zero-slots}
+use Rattle.scope.specs.Laws.One.{same-answer}
 use Rattle.promise.specs.Laws.Records.{back, copies-into}
 use Rattle.promise.specs.Laws.Told.{ident-shown, homeward}
 use Rattle.promise.specs.Laws.Named.{name-shown, other-empty}

@@ -7,6 +7,8 @@ pub mod Readies
 pub mod Accepts
 pub mod Within
 pub mod Conditions
+pub mod Zero
+pub mod One
 pub mod Early
 pub mod Targets
 pub mod Fitting

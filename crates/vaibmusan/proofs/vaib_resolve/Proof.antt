@@ -43,8 +43,8 @@ use denote.Exit.{yes}
 use Rattle.answer.specs.Buffers.{buffers}
 use Rattle.scope.specs.Answer.{Resolves}
 use Rattle.answer.specs.declared.Answer.{Answer}
-use Rattle.scope.proofs.Answer as T
-use Rattle.scope.proofs.Answer.Laws as T′
+use Rattle.answer.proofs.Answer as T
+use Rattle.answer.proofs.Answer.Laws as T′
 use Rattle.scope.proofs.resolve as callee
 use Rattle.scope.proofs.resolve.Symbol as callee-def
 use Rattle.scope.proofs.resolve.Symbol.{name as #scope·resolve}

@@ -6,9 +6,9 @@ use native.Mathlib.Decide.{ℕ-discrete}
 use Rattle.base.specs.First.{first-one}
 use Rattle.answer.specs.declared.Answer.{Answer}
 use Rattle.answer.specs.Buffers.{Buffers, buffers}
 use Rattle.scope.specs.Answer.{resolving, Resolves}
 use Rattle.scope.specs.Laws.Accepts.{judged-tree}
-use Rattle.promise.specs.Laws.Zero.{zero-accepted}
+use Rattle.scope.specs.Laws.Zero.{zero-accepted}
 
 answer-same : {a c : Answer} → a .number ≡ c .number → a .bindings ≡ c .bindings → a .«module» ≡ c .«module» → a .slots ≡ c .slots → a .copies ≡ c .copies → a .errors ≡ c .errors → a ≡ c
 answer-same {a} {c} n b m s k e =
