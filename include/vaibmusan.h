@@ -92,6 +92,14 @@ void vaib_resolve(const uint8_t *file, size_t length,
                   uint32_t *errors, size_t errors_length,
                   struct vaib_answer *answer);
 
+/* The scopes around a node, outermost first, as vaib_follow takes them: 0, and each Def or Lambda in whose last child (body or
+ * expression) the node stands; then zeros. The result is how many they are; 64 places are enough for an accepted file, where there
+ * are fewer the first ones are written. A node number past the nodes: 0, and zeros. */
+size_t vaib_scopes_around(const uint8_t *file, size_t length, size_t node, uint32_t *around, size_t around_length);
+
+/* For each Def's and Lambda's scope, at its number in outer, the scope directly around it; zeros elsewhere. 256 places hold them all. */
+void vaib_outer_scopes(const uint8_t *file, size_t length, uint32_t *outer, size_t outer_length);
+
 /* Where a local slot has its value from. around: the scopes around a place, outermost first (vaib_scopes_around); slot: a slot of
  * the last of them. As long as the first copy record for that scope and slot says so, the value comes from its parent slot in the
  * scope before; home is then the scope and slot where that ends (scope 0 if no scope is left).

@@ -90,20 +90,4 @@ static inline struct vaib_node vaib_node(const uint8_t *file, unsigned node) {
     return n;
 }
 
-/* The scopes around a node, outermost first, for vaib_follow: 0, and each Def or Lambda in whose last child (body or expression) the
- * node stands; at most 64, which is how deep a tree may be. The result is how many they are. */
-static inline size_t vaib_scopes_around(const uint8_t *file, unsigned node, uint32_t around[64]) {
-    size_t count = 0;
-    unsigned at = 0;
-    around[count++] = 0;
-    while (at < node) {
-        struct vaib_node n = vaib_node(file, at);
-        unsigned child = at + 1;
-        while (child + vaib_node(file, child).size <= node) child += vaib_node(file, child).size;
-        if ((n.kind == VAIB_DEF || n.kind == VAIB_LAMBDA) && child + vaib_node(file, child).size == at + n.size) around[count++] = n.value;
-        at = child;
-    }
-    return count;
-}
-
 #endif

@@ -5,6 +5,8 @@ ghost use lib.ListN.{length};
 ghost use Rattle.judge.specs.Cond.{Judged};
 ghost use Rattle.answer.specs.Buffers.{buffers};
 ghost use Rattle.scope.specs.Answer.{Resolves};
+ghost use Rattle.around.specs.Scopes.{scopesAt, Holds};
+ghost use Rattle.around.specs.Outer.{outerTable};
 ghost use Rattle.follow.specs.Place.{followed};
 ghost use Rattle.listing.specs.Text.{Listed};
 ghost use Rattle.vaibmusan.specs.Border.{Stands, homeOf};
@@ -74,6 +76,22 @@ pub extern "C" fn vaib_resolve(
     ensures { λ _. ⌜ Resolves (now (file .entry)) (buffers (now (nodes .entry)) (now (bindings .entry)) (now («module» .entry)) (now (scopes .entry)) (now (slots .entry)) (now (copies .entry)) (now (errors .entry))) (now (answer .exit)) (buffers (now (nodes .exit)) (now (bindings .exit)) (now («module» .exit)) (now (scopes .exit)) (now (slots .exit)) (now (copies .exit)) (now (errors .exit))) ⌝ }
 {
     *answer = scope::resolve(file, nodes, bindings, module, scopes, slots, copies, errors);
+}
+
+// The scopes around a node, outermost first, then zeros; the result is how many they are.
+#[no_mangle]
+pub extern "C" fn vaib_scopes_around(file: &[u8], node: usize, around: &mut [u32]) -> usize
+    ensures { λ r. ⌜ Holds (scopesAt (now (file .entry)) node) r (now (around .entry)) (now (around .exit)) ⌝ }
+{
+    around::scopes(file, node, around)
+}
+
+// For each scope, at its number, the scope directly around it; zeros elsewhere.
+#[no_mangle]
+pub extern "C" fn vaib_outer_scopes(file: &[u8], outer: &mut [u32])
+    ensures { λ _. ⌜ now (outer .exit) ≡ outerTable (now (file .entry)) (length (now (outer .entry))) ⌝ }
+{
+    around::outer(file, outer);
 }
 
 // The scope and the slot where a chain of copies ends.
