@@ -1,11 +1,6 @@
 //! Reading the fields of a file that was accepted.
 use crate::ids::{Name, ScopeId};
-
-/// A node's kind, as far as this crate asks.
-pub const DEF: u8 = 6;
-pub const NAME: u8 = 8;
-pub const IDENT: u8 = 11;
-pub const LAMBDA: u8 = 12;
+use crate::kinds::{DEF, LAMBDA};
 
 /// A node: kind, number of nodes with all below it, value, place in the source.
 #[derive(Clone, Copy)]
@@ -37,6 +32,11 @@ impl<'a> File<'a> {
     pub fn node(self, node: usize) -> Node {
         let at = 12 + 8 * node;
         Node { kind: self.0[at] >> 3, size: self.number(at + 1, 2), value: self.number(at + 3, 2), source: self.number(at + 5, 3) as u32 }
+    }
+
+    /// The node of that number, if there is one.
+    pub fn get(self, node: usize) -> Option<Node> {
+        (node < self.node_count()).then(|| self.node(node))
     }
 
     pub fn nodes(self) -> impl Iterator<Item = (usize, Node)> + 'a {
