@@ -14,9 +14,11 @@ fn every_call_fits() {
     let (files, mut answers) = (all_files(), Answers::new());
     let calls = move || {
         for file in &files {
-            let number = resolve(file, &mut answers).map_or_else(Refusal::number, |_| 0);
-            assert!(judge(file).map_or_else(Refusal::number, |()| 0) <= number || number == 0);
-            assert!(spelling(file, 0).len() < 256 && listing(file).to_bytes().starts_with(format!("answer {number}").as_bytes()));
+            let (judged, resolved) = (judge(file), resolve(file, &mut answers));
+            assert!(judged.is_ok() || judged.err() == resolved.err());
+            let first = format!("answer {}", resolved.map_or_else(Refusal::number, |_| 0));
+            assert!(listing(file).to_bytes().starts_with(first.as_bytes()));
+            assert_eq!(spelling(file, 1024), b"");
         }
     };
     Builder::new().stack_size(STACK).spawn(calls).expect("a thread").join().expect("no call fails");
@@ -28,7 +30,7 @@ fn a_thread_with_little_stack_can_call() {
     let longest = files.iter().max_by_key(|file| listing(file).to_bytes().len()).expect("a file").clone();
     let expected = listing(&longest).to_bytes();
     let call = move || with_stack(|| listing(&longest).to_bytes()).expect("a thread");
-    let listed = Builder::new().stack_size(32 << 10).spawn(call).expect("a thread").join();
+    let listed = Builder::new().stack_size(64 << 10).spawn(call).expect("a thread").join();
     assert_eq!(listed.expect("no call fails"), expected);
 }
 
