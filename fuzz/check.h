@@ -39,6 +39,6 @@ void check_zero_from(const struct lent *l, int behind);
 void check_spellings(const uint8_t *file, size_t length, uint64_t judged);
 
 /* The records of an accepted file hang together. */
-void check_records(const uint8_t *file, struct vaib_answer a, const struct lent *l);
+void check_records(const uint8_t *file, size_t length, struct vaib_answer a, const struct lent *l);
 
 #endif

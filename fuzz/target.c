@@ -37,7 +37,7 @@ static struct vaib_answer check_resolve(const uint8_t *file, size_t length, stru
     struct vaib_answer a = resolve_lent(file, length, &l);
     check_canaries(&l);
     if (a.number == 0) {
-        check_records(file, a, &l);
+        check_records(file, length, a, &l);
     } else {
         CHECK(a.bindings == 0 && a.module == 0 && a.slots == 0 && a.copies == 0 && a.errors == 0);
         check_zero_from(&l, 0);

@@ -8,7 +8,7 @@ bool take_apart(const uint8_t *data, size_t length, struct tree *t) {
     size_t rest = vaib_file_length(l) - vaib_names_at(l);
     if (vaib_file_length(l) != length || l.nodes == 0 || l.nodes > MOST_NODES || rest > sizeof t->lists) return false;
     t->head = l;
-    for (unsigned i = 0; i < l.nodes; i++) t->nodes[i] = vaib_node(data, i);
+    for (unsigned i = 0; i < l.nodes; i++) t->nodes[i] = vaib_get_node(data, i);
     memcpy(t->lists, data + vaib_names_at(l), rest);
     return true;
 }

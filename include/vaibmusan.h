@@ -10,34 +10,22 @@
  *   - there are 512 KB of stack left (seen: 180 KB in vaib_resolve, 260 KB in vaib_listing).
  * The functions keep nothing between calls, take no memory from the heap, and may run in many threads at once.
  *
- * Link with target/staticlib/libvaibmusan.a (tools/staticlib makes it, for the machine it runs on: Linux on x86-64 or Arm).
- * vaibmusan_records.h reads the packed records of an answer, vaibmusan_file.h writes and reads node files: plain C, and not proved. */
+ * Link with libvaibmusan.a (tools/staticlib makes it, for the machine it runs on: Linux on x86-64 or Arm; tools/install puts it in place).
+ * vaibmusan_numbers.h has the numbers given back and vaibmusan_version.h the version; vaibmusan_records.h reads the packed records of an
+ * answer, vaibmusan_file.h writes and reads node files: plain C, and not proved. No function has the name of a struct or an enum, so that
+ * C++ can use these without saying which they are. */
 #ifndef VAIBMUSAN_H
 #define VAIBMUSAN_H
 
 #include <stddef.h>
 #include <stdint.h>
 
+#include "vaibmusan_numbers.h"
+#include "vaibmusan_version.h"
+
 #ifdef __cplusplus
 extern "C" {
 #endif
-
-/* The numbers given back: 0, or the smallest number of document 01's table whose condition holds. */
-enum vaib_number {
-    VAIB_ACCEPTED = 0,
-    VAIB_SHORT_BUFFER = 1,  /* an answer buffer is shorter than its full length */
-    VAIB_BAD_HEADER = 2,    /* fewer than 12 bytes, version not 1, or zero bits set in the header */
-    VAIB_BAD_COUNTS = 3,    /* nodes 0 or above 2,048; names above 1,024; module entries or globals above 256; pool above 16,384 */
-    VAIB_BAD_LENGTH = 4,    /* length is not exactly what the header says */
-    VAIB_BAD_NAMES = 5,     /* a name of length 0, past the pool, or spelled as an earlier one */
-    VAIB_BAD_LISTS = 6,     /* a module entry or global with no such name, or a name twice in one list */
-    VAIB_BAD_NODES = 7,     /* kind above 18, zero bits set, a wrong size, no such name, or a value where none belongs */
-    VAIB_BAD_CHILDREN = 8,  /* the root no statement, or children other than the table allows */
-    VAIB_TOO_DEEP = 9,      /* depth 65 or more */
-    VAIB_BAD_SCOPES = 10,   /* scope numbers are not 1..S each once, or S above 255 */
-    VAIB_BAD_PARAMS = 11,   /* two Params of one Def or Lambda with one name */
-    VAIB_TOO_MANY_SLOTS = 12 /* all scopes together would need more than 4,096 slots */
-};
 
 /* Full lengths of the answer buffers, in elements. */
 enum vaib_full_length {
@@ -91,6 +79,9 @@ void vaib_resolve(const uint8_t *file, size_t length,
                   uint32_t *copies, size_t copies_length,
                   uint32_t *errors, size_t errors_length,
                   struct vaib_answer *answer);
+
+/* The library's own VAIB_VERSION_NUMBER. */
+uint64_t vaib_version(void);
 
 /* The scopes around a node, outermost first, as vaib_follow takes them: 0, and each Def or Lambda in whose last child (body or
  * expression) the node stands; then zeros. The result is how many they are; 64 places are enough for an accepted file, where there

@@ -84,7 +84,7 @@ static inline void vaib_put_global(uint8_t *file, struct vaib_layout l, unsigned
 /* Readers, for files that vaib_judge accepts. */
 static inline unsigned vaib_node_count(const uint8_t *file) { return vaib_get_bytes(file + 1, 2); }
 
-static inline struct vaib_node vaib_node(const uint8_t *file, unsigned node) {
+static inline struct vaib_node vaib_get_node(const uint8_t *file, unsigned node) {
     const uint8_t *at = file + 12 + 8 * (size_t)node;
     struct vaib_node n = {(enum vaib_kind)(at[0] >> 3), vaib_get_bytes(at + 1, 2), vaib_get_bytes(at + 3, 2), vaib_get_bytes(at + 5, 3)};
     return n;

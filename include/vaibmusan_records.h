@@ -42,7 +42,7 @@ struct vaib_node_record {
     unsigned binding; /* 0 for a global */
 };
 
-static inline struct vaib_node_record vaib_node_record(uint32_t r) {
+static inline struct vaib_node_record vaib_unpack_node(uint32_t r) {
     struct vaib_node_record n = {(enum vaib_class)vaib_field(r, 30, 2), vaib_field(r, 15, 15), vaib_field(r, 0, 15)};
     return n;
 }
@@ -59,7 +59,7 @@ struct vaib_binding_record {
     unsigned slot;    /* local slot if local, else module slot */
 };
 
-static inline struct vaib_binding_record vaib_binding_record(uint64_t r) {
+static inline struct vaib_binding_record vaib_unpack_binding(uint64_t r) {
     struct vaib_binding_record b = {vaib_field(r, 48, 16),     vaib_field(r, 32, 16),     vaib_field(r, 31, 1) == 1, vaib_field(r, 30, 1) == 1,
                                     vaib_field(r, 29, 1) == 1, vaib_field(r, 28, 1) == 1, vaib_field(r, 27, 1) == 1, vaib_field(r, 12, 15)};
     return b;
@@ -72,7 +72,7 @@ struct vaib_module_record {
     unsigned slot;
 };
 
-static inline struct vaib_module_record vaib_module_record(uint32_t r) {
+static inline struct vaib_module_record vaib_unpack_module(uint32_t r) {
     struct vaib_module_record m = {vaib_field(r, 16, 16), vaib_field(r, 15, 1) == 1, vaib_field(r, 0, 15)};
     return m;
 }
@@ -83,7 +83,7 @@ struct vaib_scope_record {
     unsigned slots;
 };
 
-static inline struct vaib_scope_record vaib_scope_record(uint32_t r) {
+static inline struct vaib_scope_record vaib_unpack_scope(uint32_t r) {
     struct vaib_scope_record s = {vaib_field(r, 16, 16), vaib_field(r, 0, 16)};
     return s;
 }
@@ -94,7 +94,7 @@ struct vaib_slot_record {
     unsigned name;
 };
 
-static inline struct vaib_slot_record vaib_slot_record(uint32_t r) {
+static inline struct vaib_slot_record vaib_unpack_slot(uint32_t r) {
     struct vaib_slot_record s = {vaib_field(r, 16, 16), vaib_field(r, 0, 16)};
     return s;
 }
@@ -106,7 +106,7 @@ struct vaib_copy_record {
     unsigned child;
 };
 
-static inline struct vaib_copy_record vaib_copy_record(uint32_t r) {
+static inline struct vaib_copy_record vaib_unpack_copy(uint32_t r) {
     struct vaib_copy_record c = {vaib_field(r, 24, 8), vaib_field(r, 12, 12), vaib_field(r, 0, 12)};
     return c;
 }
@@ -117,7 +117,7 @@ struct vaib_error_record {
     enum vaib_error code;
 };
 
-static inline struct vaib_error_record vaib_error_record(uint32_t r) {
+static inline struct vaib_error_record vaib_unpack_error(uint32_t r) {
     struct vaib_error_record e = {vaib_field(r, 16, 16), (enum vaib_error)vaib_field(r, 0, 16)};
     return e;
 }

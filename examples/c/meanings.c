@@ -45,20 +45,20 @@ static void print_name(size_t length, unsigned name) {
 
 /* What an Ident means, and for a local where its value comes from. */
 static void print_ident(size_t length, unsigned node, size_t copies) {
-    struct vaib_node_record r = vaib_node_record(answer.nodes[node]);
+    struct vaib_node_record r = vaib_unpack_node(answer.nodes[node]);
     printf("node %u: ", node);
-    print_name(length, vaib_node(file, node).value);
+    print_name(length, vaib_get_node(file, node).value);
     switch (r.class_of) {
     case VAIB_NOTHING: printf(" has no answer\n"); break;
     case VAIB_GLOBAL: printf(" is global %u\n", r.slot); break;
     case VAIB_OF_MODULE: printf(" is module slot %u\n", r.slot); break;
     case VAIB_LOCAL: {
         uint32_t around[64];
-        size_t count = vaib_scopes_around(file, node, around);
+        size_t count = vaib_scopes_around(file, length, node, around, 64);
         struct vaib_home home;
         vaib_follow(answer.copies, copies, around, count, r.slot, &home);
         printf(" is slot %u of scope %u; its value comes from slot %zu of scope %zu, declared by node %u\n", r.slot,
-               (unsigned)around[count - 1], home.slot, home.scope, vaib_binding_record(answer.bindings[r.binding]).source);
+               (unsigned)around[count - 1], home.slot, home.scope, vaib_unpack_binding(answer.bindings[r.binding]).source);
     }
     }
 }
@@ -78,16 +78,17 @@ int main(void) {
     size_t length = build();
     struct vaib_answer a = vaib_resolve_into(file, length, &answer);
     if (a.number != VAIB_ACCEPTED) {
-        printf("refused: %u\n", (unsigned)a.number);
+        printf("refused: %s\n", vaib_number_text(a.number));
         return 1;
     }
     for (unsigned i = 0; i < vaib_node_count(file); i++)
-        if (vaib_node(file, i).kind == VAIB_IDENT) print_ident(length, i, a.copies);
+        if (vaib_get_node(file, i).kind == VAIB_IDENT) print_ident(length, i, a.copies);
     for (size_t i = 0; i < a.errors; i++) {
-        struct vaib_error_record e = vaib_error_record(answer.errors[i]);
+        struct vaib_error_record e = vaib_unpack_error(answer.errors[i]);
         printf("node %u: %s\n", e.node, e.code == VAIB_NOT_FOUND ? "not found" : "a local in a type");
     }
     print_listing(length);
-    printf("without its last byte: number %u\n", (unsigned)vaib_judge(file, length - 1));
+    uint64_t cut = vaib_judge(file, length - 1);
+    printf("without its last byte: number %u, %s\n", (unsigned)cut, vaib_number_text(cut));
     return 0;
 }

@@ -1,13 +1,24 @@
-//! Links the static library of the proved resolver: libvaibmusan.a in VAIBMUSAN_LIB_DIR, or else in this repository's target/staticlib.
-//! Where it is not there a warning says how to make it: `cargo check` and `cargo doc` do without, and what links stops at rustc.
+//! Links the static library of the proved resolver: libvaibmusan.a in VAIBMUSAN_LIB_DIR, or else in target/staticlib of the nearest folder
+//! above that has it there: this repository. Where it is not there a warning says how to make it: `cargo check` and `cargo doc` do without,
+//! and what links stops at rustc.
 use std::env;
-use std::path::PathBuf;
+use std::path::{Path, PathBuf};
+
+const LIBRARY: &str = "libvaibmusan.a";
+
+/// The folder to link from.
+fn folder(here: &Path) -> PathBuf {
+    if let Some(named) = env::var_os("VAIBMUSAN_LIB_DIR") {
+        return here.join(named);
+    }
+    let above = here.ancestors().map(|f| f.join("target/staticlib")).find(|f| f.join(LIBRARY).is_file());
+    above.unwrap_or_else(|| here.join("../../target/staticlib"))
+}
 
 fn main() {
     println!("cargo:rerun-if-env-changed=VAIBMUSAN_LIB_DIR");
-    let here = PathBuf::from(env!("CARGO_MANIFEST_DIR"));
-    let folder = here.join(env::var_os("VAIBMUSAN_LIB_DIR").unwrap_or("../../target/staticlib".into()));
-    let library = folder.join("libvaibmusan.a");
+    let folder = folder(Path::new(env!("CARGO_MANIFEST_DIR")));
+    let library = folder.join(LIBRARY);
     println!("cargo:rerun-if-changed={}", library.display());
     println!("cargo:rustc-link-search=native={}", folder.display());
     println!("cargo:rustc-link-lib=static=vaibmusan");

@@ -27,6 +27,16 @@ pub struct Home {
     pub slot: usize,
 }
 
+// This library's version: a thousand times the first number, and the second.
+const VERSION: u64 = 2;
+
+#[no_mangle]
+pub extern "C" fn vaib_version() -> u64
+    ensures { λ r. ⌜ r ≡ 2 ⌝ }
+{
+    VERSION
+}
+
 #[no_mangle]
 pub extern "C" fn vaib_judge(file: &[u8]) -> u64
     ensures { λ r. ⌜ Judged (now (file .entry)) r ⌝ }

@@ -5,6 +5,7 @@ use std::error::Error;
 use vaibmusan::{resolve, Answers, Expr, Resolved, Script, Slot, Stmt, Target};
 
 /// offset = 0, and the three functions
+#[must_use]
 pub fn script() -> Script {
     let root = Stmt::block([Stmt::assign("offset", Expr::Other(vec![])), own(), corrected(), in_order()]);
     Script::new(root).with_globals(["sorted"])

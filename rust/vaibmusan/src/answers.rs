@@ -4,6 +4,7 @@ use crate::file::File;
 use crate::ids::{LocalSlotId, Name, ScopeId};
 use crate::records::{Home, NodeAnswer, Resolved, Slot};
 use crate::refusal::Refusal;
+use std::fmt;
 
 /// How many records each list of an answer has.
 #[derive(Clone, Copy, Debug, Default, PartialEq, Eq)]
@@ -50,13 +51,37 @@ pub struct Answers {
 /// assert_eq!(resolve(b"too short", &mut answers), Err(Refusal::Header));
 /// assert_eq!(answers.bindings().count(), 0);
 /// ```
+///
+/// # Errors
+/// The smallest of document 01's numbers whose condition holds; `answers` is empty then. An Ident that means nothing is no refusal:
+/// [`Answers::errors`] has it.
 pub fn resolve(file: &[u8], answers: &mut Answers) -> Result<Counts, Refusal> {
-    let a = ffi::resolve(file, &mut answers.buffers);
-    answers.counts = Counts { bindings: a.bindings, module: a.module, slots: a.slots, copies: a.copies, errors: a.errors };
+    answers.counts = Counts::default();
     answers.file.clear();
+    let a = ffi::resolve(file, &mut answers.buffers);
     Refusal::check(a.number)?;
+    answers.counts = Counts { bindings: a.bindings, module: a.module, slots: a.slots, copies: a.copies, errors: a.errors };
     answers.file.extend_from_slice(file);
     Ok(answers.counts)
+}
+
+/// The lists, record by record.
+impl fmt::Debug for Answers {
+    fn fmt(&self, f: &mut fmt::Formatter<'_>) -> fmt::Result {
+        fn list<T>(records: impl Iterator<Item = T>) -> Vec<T> {
+            records.collect()
+        }
+        f.debug_struct("Answers")
+            .field("bindings", &list(self.bindings()))
+            .field("module", &list(self.module()))
+            .field("scopes", &list(self.scopes()))
+            .field("slots", &list(self.slots()))
+            .field("copies", &list(self.copies()))
+            .field("idents", &list(self.idents()))
+            .field("names", &list(self.names()))
+            .field("errors", &list(self.errors()))
+            .finish()
+    }
 }
 
 impl Default for Answers {
@@ -67,16 +92,19 @@ impl Default for Answers {
 
 impl Answers {
     /// Room, with nothing in it.
+    #[must_use]
     pub fn new() -> Self {
         Answers { buffers: Buffers::new(), counts: Counts::default(), file: Vec::new() }
     }
 
     /// How many records each list has.
+    #[must_use]
     pub fn counts(&self) -> Counts {
         self.counts
     }
 
     /// The packed records.
+    #[must_use]
     pub fn raw(&self) -> Raw<'_> {
         let b = &self.buffers;
         Raw { nodes: &b.nodes, bindings: &b.bindings, module: &b.module, scopes: &b.scopes, slots: &b.slots, copies: &b.copies, errors: &b.errors }
@@ -91,15 +119,13 @@ impl Answers {
     }
 
     /// The scopes around a node, outermost first; none where there is no such node.
+    #[must_use]
     pub fn scopes_around(&self, node: usize) -> Vec<ScopeId> {
-        if node < self.file().node_count() {
-            self.file().scopes_around(node)
-        } else {
-            Vec::new()
-        }
+        ffi::scopes_around(&self.file, node).into_iter().map(|s| ScopeId(s as usize)).collect()
     }
 
     /// Where a slot of the last of these scopes, given outermost first, has its value from: its copies are followed outward.
+    #[must_use]
     pub fn follow(&self, around: &[ScopeId], slot: LocalSlotId) -> Home {
         let around: Vec<u32> = around.iter().map(|s| s.0 as u32).collect();
         let (scope, slot) = ffi::follow(&self.buffers.copies[..self.counts.copies], &around, slot.0 as usize);
@@ -107,6 +133,7 @@ impl Answers {
     }
 
     /// The variable's own place, of an Ident that means a local.
+    #[must_use]
     pub fn home(&self, ident: &NodeAnswer<'_>) -> Option<Home> {
         match ident.resolved {
             Resolved::Slot(Slot::Local(slot), _) => Some(self.follow(&self.scopes_around(ident.node), slot)),
@@ -115,6 +142,7 @@ impl Answers {
     }
 
     /// The listing of the file.
+    #[must_use]
     pub fn listing(&self) -> crate::Listing<'_> {
         crate::listing(&self.file)
     }

@@ -67,6 +67,8 @@ extern "C" {
         errors_length: usize,
         answer: *mut Answer,
     );
+    fn vaib_scopes_around(file: *const u8, length: usize, node: usize, around: *mut u32, around_length: usize) -> usize;
+    fn vaib_version() -> u64;
     fn vaib_follow(copies: *const u32, copies_length: usize, around: *const u32, around_length: usize, slot: usize, home: *mut Home);
     fn vaib_listing(file: *const u8, length: usize, from: usize, text: *mut u8, text_length: usize) -> usize;
 }
@@ -108,6 +110,19 @@ pub fn resolve(file: &[u8], b: &mut Buffers) -> Answer {
         )
     }
     answer
+}
+
+/// The scopes around a node, outermost first; none where there is no such node. A tree of an accepted file is at most 64 deep.
+pub fn scopes_around(file: &[u8], node: usize) -> Vec<u32> {
+    let mut around = [0; 64];
+    // SAFETY: two slices' pointers and lengths.
+    let count = unsafe { vaib_scopes_around(file.as_ptr(), file.len(), node, around.as_mut_ptr(), around.len()) };
+    around[..count.min(around.len())].to_vec()
+}
+
+pub fn version() -> u64 {
+    // SAFETY: it takes nothing.
+    unsafe { vaib_version() }
 }
 
 /// The scope and the slot where a chain of copies ends.

@@ -1,11 +1,6 @@
 //! Reading the fields of a file that was accepted.
-use crate::ids::{Name, ScopeId};
-
-/// A node's kind, as far as this crate asks.
-pub const DEF: u8 = 6;
-pub const NAME: u8 = 8;
-pub const IDENT: u8 = 11;
-pub const LAMBDA: u8 = 12;
+use crate::ids::Name;
+use crate::kinds::{DEF, LAMBDA};
 
 /// A node: kind, number of nodes with all below it, value, place in the source.
 #[derive(Clone, Copy)]
@@ -39,6 +34,11 @@ impl<'a> File<'a> {
         Node { kind: self.0[at] >> 3, size: self.number(at + 1, 2), value: self.number(at + 3, 2), source: self.number(at + 5, 3) as u32 }
     }
 
+    /// The node of that number, if there is one.
+    pub fn get(self, node: usize) -> Option<Node> {
+        (node < self.node_count()).then(|| self.node(node))
+    }
+
     pub fn nodes(self) -> impl Iterator<Item = (usize, Node)> + 'a {
         (0..self.node_count()).map(move |i| (i, self.node(i)))
     }
@@ -53,23 +53,5 @@ impl<'a> File<'a> {
         let pool = names + 3 * self.number(3, 2) + 4 * self.number(5, 2) + 2 * self.number(7, 2);
         let start = pool + self.number(names + 3 * name, 2);
         Name { number: name, bytes: &self.0[start..start + self.number(names + 3 * name + 2, 1)] }
-    }
-
-    /// The scopes around a node, outermost first: the module, and each Def or Lambda in whose last child the node stands.
-    pub fn scopes_around(self, node: usize) -> Vec<ScopeId> {
-        let mut around = vec![ScopeId(0)];
-        let mut at = 0;
-        while at < node {
-            let outer = self.node(at);
-            let mut child = at + 1;
-            while child + self.node(child).size <= node {
-                child += self.node(child).size;
-            }
-            if (outer.kind == DEF || outer.kind == LAMBDA) && child + self.node(child).size == at + outer.size {
-                around.push(ScopeId(outer.value));
-            }
-            at = child;
-        }
-        around
     }
 }

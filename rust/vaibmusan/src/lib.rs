@@ -4,6 +4,9 @@
 //! [`listing`] do what document 01 (docs/01-scope.md) says, for any bytes. What this crate adds is not proved, only tested: it lends
 //! the buffers, reads the packed records into named fields, and writes node files from trees ([`Script`]).
 //!
+//! A call needs up to 512 KB of stack ([`STACK`]) and nothing from the heap. Any thread of the standard library has that; [`with_stack`] is for
+//! those that were made with less.
+//!
 //! ```
 //! use vaibmusan::{resolve, Answers, Expr, Resolved, Script, Slot, Stmt};
 //!
@@ -36,26 +39,33 @@
 //! ```
 
 mod answers;
+mod dismantle;
 mod ffi;
 mod file;
 mod ids;
+mod kinds;
+mod limits;
 mod listing;
 mod lists;
 mod nodes;
+mod pool;
 mod records;
 mod refusal;
+mod stack;
 mod tree;
 mod write;
 
 pub use answers::{resolve, Answers, Counts, Raw};
 pub use ids::{BindingId, LocalSlotId, ModuleSlotId, Name, ScopeId};
+pub use limits::TooLarge;
 pub use listing::{listing, Listing};
 pub use records::{
     AssignCount, Binding, CopySlotFromParent, ErrorKind, Home, ModuleEntry, NameError, NamedSlot, NodeAnswer, Resolved, Scope, Slot, Visibility,
 };
 pub use refusal::Refusal;
+pub use stack::{with_stack, STACK};
 pub use tree::{Clause, Expr, Id, Param, Stmt, Target};
-pub use write::{Entry, Script, TooLarge};
+pub use write::{Entry, Script};
 
 /// Whether a file is accepted; of several faults the one with the smallest number. Number 12 is for [`resolve`] to tell.
 ///
@@ -64,6 +74,9 @@ pub use write::{Entry, Script, TooLarge};
 /// assert_eq!(judge(&[]), Err(Refusal::Header));
 /// assert_eq!(Refusal::Header.number(), 2);
 /// ```
+///
+/// # Errors
+/// The smallest of document 01's numbers 2 to 11 whose condition holds.
 pub fn judge(file: &[u8]) -> Result<(), Refusal> {
     Refusal::check(ffi::judge(file))
 }
@@ -77,6 +90,18 @@ pub fn judge(file: &[u8]) -> Result<(), Refusal> {
 /// assert_eq!(spelling(&file, 1), b"");
 /// # Ok::<(), vaibmusan::TooLarge>(())
 /// ```
+#[must_use]
 pub fn spelling(file: &[u8], name: usize) -> &[u8] {
     ffi::spelling(file, name)
+}
+
+/// The README's code, as a test.
+#[cfg(doctest)]
+#[doc = include_str!("../README.md")]
+struct Readme;
+
+/// The version of the linked library: a thousand times the first number, and the second.
+#[must_use]
+pub fn library_version() -> u64 {
+    ffi::version()
 }

@@ -1,7 +1,8 @@
 //! The lists of an answer, each record unpacked.
 use crate::answers::Answers;
-use crate::file::{IDENT, NAME};
+use crate::file::Node;
 use crate::ids::*;
+use crate::kinds::{IDENT, NAME};
 use crate::records::*;
 
 /// The field of so many bits that ends `low` bits above a record's lowest.
@@ -19,6 +20,7 @@ fn visibility(public: u32) -> Visibility {
 
 impl Answers {
     /// The variable of that number.
+    #[must_use]
     pub fn binding(&self, id: BindingId) -> Option<Binding<'_>> {
         let r = *self.buffers.bindings[..self.counts.bindings].get(id.0)?;
         let slot = field(r, 12, 15);
@@ -72,18 +74,34 @@ impl Answers {
         })
     }
 
+    /// The answer in a node's record, if it has one.
+    fn answer(&self, node: usize, n: Node) -> Option<NodeAnswer<'_>> {
+        let r = self.buffers.nodes[node];
+        let (slot, binding) = (field(r, 15, 15), BindingId(field(r, 0, 15) as usize));
+        let resolved = match field(r, 30, 2) {
+            0 => return None,
+            1 => Resolved::Slot(Slot::Module(ModuleSlotId(slot)), binding),
+            2 => Resolved::Slot(Slot::Local(LocalSlotId(slot)), binding),
+            _ => Resolved::Global(slot),
+        };
+        Some(NodeAnswer { node, name: self.name(n.value as u32), source_offset: n.source, resolved })
+    }
+
     fn answered(&self, kind: u8) -> impl Iterator<Item = NodeAnswer<'_>> {
-        self.file().nodes().filter(move |(_, n)| n.kind == kind).filter_map(|(node, n)| {
-            let r = self.buffers.nodes[node];
-            let (slot, binding) = (field(r, 15, 15), BindingId(field(r, 0, 15) as usize));
-            let resolved = match field(r, 30, 2) {
-                0 => return None,
-                1 => Resolved::Slot(Slot::Module(ModuleSlotId(slot)), binding),
-                2 => Resolved::Slot(Slot::Local(LocalSlotId(slot)), binding),
-                _ => Resolved::Global(slot),
-            };
-            Some(NodeAnswer { node, name: self.name(n.value as u32), source_offset: n.source, resolved })
-        })
+        self.file().nodes().filter(move |(_, n)| n.kind == kind).filter_map(|(node, n)| self.answer(node, n))
+    }
+
+    /// What the Ident of that node number means; nothing if it has no answer, or the node is no Ident, or there is no such node.
+    #[must_use]
+    pub fn ident(&self, node: usize) -> Option<NodeAnswer<'_>> {
+        let n = self.file().get(node).filter(|n| n.kind == IDENT)?;
+        self.answer(node, n)
+    }
+
+    /// Where in the source text a node stands, as the file says; nothing if there is no such node.
+    #[must_use]
+    pub fn source_offset(&self, node: usize) -> Option<u32> {
+        self.file().get(node).map(|n| n.source)
     }
 
     /// The Idents that have an answer, in node order.
@@ -101,8 +119,7 @@ impl Answers {
         self.buffers.errors[..self.counts.errors].iter().map(|&r| {
             let node = field(r, 16, 16) as usize;
             let n = self.file().node(node);
-            let kind = if field(r, 0, 16) == 1 { ErrorKind::NotFound } else { ErrorKind::LocalInType };
-            NameError { node, name: self.name(n.value as u32), source_offset: n.source, kind }
+            NameError { node, name: self.name(n.value as u32), source_offset: n.source, kind: ErrorKind::of(field(r, 0, 16)) }
         })
     }
 }

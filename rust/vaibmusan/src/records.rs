@@ -115,11 +115,24 @@ pub struct NodeAnswer<'a> {
 
 /// Why an Ident has no answer.
 #[derive(Clone, Copy, Debug, PartialEq, Eq, Hash)]
+#[non_exhaustive]
 pub enum ErrorKind {
     /// 1: nothing of that name.
     NotFound,
     /// 2: a local stands directly in a type.
     LocalInType,
+    /// A code that this crate does not know: the library is newer.
+    Unknown(u32),
+}
+
+impl ErrorKind {
+    pub(crate) fn of(code: u32) -> ErrorKind {
+        match code {
+            1 => ErrorKind::NotFound,
+            2 => ErrorKind::LocalInType,
+            _ => ErrorKind::Unknown(code),
+        }
+    }
 }
 
 /// An Ident without an answer.

@@ -11,23 +11,36 @@ macro_rules! refusals {
         #[derive(Clone, Copy, Debug, PartialEq, Eq, Hash, PartialOrd, Ord)]
         #[non_exhaustive]
         pub enum Refusal {
-            $(#[doc = concat!(stringify!($number), ": ", $condition, ".")] $name = $number,)*
+            $(#[doc = concat!(stringify!($number), ": ", $condition, ".")] $name,)*
+            /// A number that this crate does not know: the library is newer.
+            Unknown(u64),
         }
 
         impl Refusal {
             /// Document 01's condition.
+            #[must_use]
             pub fn condition(self) -> &'static str {
                 match self {
                     $(Refusal::$name => $condition,)*
+                    Refusal::Unknown(_) => "a number that this crate does not know",
                 }
             }
 
-            /// `Ok` for 0; the library is proved to give no other number than the table's.
+            /// Document 01's number.
+            #[must_use]
+            pub fn number(self) -> u64 {
+                match self {
+                    $(Refusal::$name => $number,)*
+                    Refusal::Unknown(number) => number,
+                }
+            }
+
+            /// `Ok` for 0.
             pub(crate) fn check(number: u64) -> Result<(), Refusal> {
                 match number {
                     0 => Ok(()),
                     $($number => Err(Refusal::$name),)*
-                    _ => unreachable!("{number} is no number of document 01"),
+                    _ => Err(Refusal::Unknown(number)),
                 }
             }
         }
@@ -49,17 +62,33 @@ refusals! {
     Slots = 12, "all scopes together would need more than 4,096 slots";
 }
 
-impl Refusal {
-    /// Document 01's number.
-    pub fn number(self) -> u64 {
-        self as u64
-    }
-}
-
 impl fmt::Display for Refusal {
     fn fmt(&self, f: &mut fmt::Formatter<'_>) -> fmt::Result {
-        f.write_str(self.condition())
+        match self {
+            Refusal::Unknown(number) => write!(f, "{}: {number}", self.condition()),
+            _ => f.write_str(self.condition()),
+        }
     }
 }
 
 impl Error for Refusal {}
+
+#[cfg(test)]
+mod tests {
+    use super::Refusal;
+
+    #[test]
+    fn an_unknown_number_is_an_error() {
+        assert_eq!(Refusal::check(u64::MAX), Err(Refusal::Unknown(u64::MAX)));
+        assert_eq!(Refusal::Unknown(999).number(), 999);
+        assert_eq!(Refusal::Unknown(999).to_string(), "a number that this crate does not know: 999");
+    }
+
+    #[test]
+    fn the_others_have_their_numbers() {
+        for number in 1..=12 {
+            let refusal = Refusal::check(number).unwrap_err();
+            assert!(refusal.number() == number && !matches!(refusal, Refusal::Unknown(_)));
+        }
+    }
+}

@@ -1,8 +1,12 @@
 //! Node files from trees.
-use crate::nodes::Writer;
+use crate::limits::{self, TooLarge};
+use crate::nodes::{Node, Writer};
+use crate::pool::Pool;
 use crate::tree::Stmt;
-use std::error::Error;
-use std::fmt;
+use std::mem::size_of;
+
+/// Document 01's version of the node file.
+const VERSION: u8 = 1;
 
 /// An entry of the module list that a file starts with.
 #[derive(Clone, Debug, PartialEq, Eq)]
@@ -38,82 +42,81 @@ pub struct Script {
     pub root: Stmt,
 }
 
-/// Something does not fit into the field that the format has for it. Smaller limits are for [`crate::judge`] to tell.
-#[derive(Clone, Copy, Debug, PartialEq, Eq)]
-pub struct TooLarge {
-    /// What there is too much of.
-    pub what: &'static str,
-    /// How much the format can say.
-    pub most: usize,
-}
-
-impl fmt::Display for TooLarge {
-    fn fmt(&self, f: &mut fmt::Formatter<'_>) -> fmt::Result {
-        write!(f, "{}: more than {}", self.what, self.most)
-    }
-}
-
-impl Error for TooLarge {}
-
-/// The low bytes of a number, most significant first.
-fn put(out: &mut Vec<u8>, bytes: usize, value: usize, what: &'static str) -> Result<(), TooLarge> {
-    let most = (1 << (8 * bytes)) - 1;
-    if value > most {
-        return Err(TooLarge { what, most });
-    }
-    out.extend_from_slice(&value.to_be_bytes()[8 - bytes..]);
-    Ok(())
+/// The low bytes of a number, most significant first; that it fits was checked before.
+fn put(out: &mut Vec<u8>, bytes: usize, value: usize) {
+    out.extend_from_slice(&value.to_be_bytes()[size_of::<usize>() - bytes..]);
 }
 
 impl Script {
     /// A script with no module entries and no globals.
+    #[must_use]
     pub fn new(root: Stmt) -> Script {
         Script { reexport: false, entries: Vec::new(), globals: Vec::new(), root }
     }
 
     /// The same with these globals.
+    #[must_use]
     pub fn with_globals<'a>(mut self, globals: impl IntoIterator<Item = &'a str>) -> Script {
         self.globals = globals.into_iter().map(|g| g.as_bytes().to_vec()).collect();
         self
     }
 
-    /// The node file: nodes in table order, names by first use, scope numbers 1 to S in node order.
+    /// The node file: nodes in table order, names by first use, scope numbers 1 to S in node order. An Other inside an Other is no node:
+    /// what it holds stands in its place.
+    ///
+    /// # Errors
+    /// Where there is more of something than an accepted file may hold, however deep or large the tree is. What [`crate::judge`] may still refuse
+    /// is an empty name, a name twice in a list, and two parameters of one name.
     pub fn to_bytes(&self) -> Result<Vec<u8>, TooLarge> {
         let mut w = Writer::default();
-        w.stmt(&self.root);
-        let entries: Vec<usize> = self.entries.iter().map(|e| w.name(&e.name)).collect();
-        let globals: Vec<usize> = self.globals.iter().map(|g| w.name(g)).collect();
-        let pool: usize = w.names.iter().map(Vec::len).sum();
+        w.stmt(&self.root)?;
+        let entries = self.numbered_entries(&mut w.pool)?;
+        let globals = self.numbered_globals(&mut w.pool)?;
 
-        let mut out = vec![1 << 4 | u8::from(self.reexport) << 3];
-        put(&mut out, 2, w.nodes.len(), "nodes")?;
-        put(&mut out, 2, w.names.len(), "names")?;
-        put(&mut out, 2, entries.len(), "module entries")?;
-        put(&mut out, 2, globals.len(), "globals")?;
-        put(&mut out, 3, pool, "bytes of names")?;
-        for n in &w.nodes {
-            out.push(n.kind << 3);
-            put(&mut out, 2, n.size, "nodes")?;
-            put(&mut out, 2, n.value, "functions")?;
-            put(&mut out, 3, n.source as usize, "source offset")?;
+        let mut out = vec![VERSION << 4 | u8::from(self.reexport) << 3];
+        for count in [w.nodes.len(), w.pool.names.len(), entries.len(), globals.len()] {
+            put(&mut out, 2, count);
         }
-        let mut offset = 0;
-        for name in &w.names {
-            put(&mut out, 2, offset, "bytes of names")?;
-            put(&mut out, 1, name.len(), "bytes of a name")?;
-            offset += name.len();
-        }
-        for (entry, name) in self.entries.iter().zip(entries) {
-            if entry.slot > 0x7fff {
-                return Err(TooLarge { what: "slot of a module entry", most: 0x7fff });
-            }
-            put(&mut out, 2, name, "names")?;
-            put(&mut out, 2, usize::from(entry.public) << 15 | usize::from(entry.slot), "slot of a module entry")?;
-        }
-        for name in globals {
-            put(&mut out, 2, name, "names")?;
-        }
-        out.extend(w.names.concat());
+        put(&mut out, 3, w.pool.bytes);
+        put_nodes(&mut out, &w.nodes);
+        put_spellings(&mut out, &w.pool.names);
+        entries.iter().for_each(|&entry| put(&mut out, 4, entry));
+        globals.iter().for_each(|&name| put(&mut out, 2, name));
+        out.extend(w.pool.names.concat());
         Ok(out)
+    }
+
+    /// The module entries as the file has them: name 16, public 1, slot 15.
+    fn numbered_entries(&self, pool: &mut Pool) -> Result<Vec<usize>, TooLarge> {
+        TooLarge::check("module entries", self.entries.len(), limits::ENTRIES)?;
+        let packed = |entry: &Entry| {
+            TooLarge::check("slot of a module entry", entry.slot.into(), limits::SLOT)?;
+            Ok(pool.number(&entry.name)? << 16 | usize::from(entry.public) << 15 | usize::from(entry.slot))
+        };
+        self.entries.iter().map(packed).collect()
+    }
+
+    fn numbered_globals(&self, pool: &mut Pool) -> Result<Vec<usize>, TooLarge> {
+        TooLarge::check("globals", self.globals.len(), limits::GLOBALS)?;
+        self.globals.iter().map(|name| pool.number(name)).collect()
+    }
+}
+
+fn put_nodes(out: &mut Vec<u8>, nodes: &[Node]) {
+    for n in nodes {
+        out.push(n.kind << 3);
+        put(out, 2, n.size);
+        put(out, 2, n.value);
+        put(out, 3, n.source as usize);
+    }
+}
+
+/// Where in the pool each name stands: one behind the other.
+fn put_spellings(out: &mut Vec<u8>, names: &[Vec<u8>]) {
+    let mut offset = 0;
+    for name in names {
+        put(out, 2, offset);
+        put(out, 1, name.len());
+        offset += name.len();
     }
 }

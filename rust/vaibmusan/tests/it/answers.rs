@@ -71,3 +71,41 @@ fn a_refusal_says_its_condition() {
     assert_eq!(Refusal::Depth.to_string(), "depth 65 or more");
     assert_eq!((Refusal::ShortBuffer.number(), Refusal::Slots.number()), (1, 12));
 }
+
+#[test]
+fn an_ident_by_its_node() {
+    let mut answers = Answers::new();
+    assert_eq!((answers.ident(0), answers.source_offset(0)), (None, None));
+    for (file, _) in files::listed() {
+        let _ = resolve(&file, &mut answers);
+        let mut idents = answers.idents().peekable();
+        for node in 0..answers.raw().nodes.len() + 2 {
+            let expected = idents.next_if(|i| i.node == node);
+            assert_eq!(answers.ident(node), expected, "node {node}");
+            assert!(expected.map_or(true, |i| answers.source_offset(node) == Some(i.source_offset)));
+        }
+    }
+}
+
+/// Each node's place in the source; the sample's first Name is `offset`, behind five lines of comment.
+#[test]
+fn a_node_has_a_source_offset() {
+    let mut answers = Answers::new();
+    resolve(&files::sample(), &mut answers).expect("the sample is accepted");
+    let source = files::source();
+    for binding in answers.bindings() {
+        let at = answers.source_offset(binding.source.expect("declared in the script")).expect("there is such a node") as usize;
+        assert_eq!(&source[at..at + binding.name.bytes.len()], binding.name.bytes);
+    }
+    let count = (0..).take_while(|&node| answers.source_offset(node).is_some()).count();
+    assert_eq!(count, usize::from(files::sample()[1]) << 8 | usize::from(files::sample()[2]));
+}
+
+#[test]
+fn answers_can_be_printed() {
+    let mut answers = Answers::new();
+    assert_eq!(format!("{answers:?}"), "Answers { bindings: [], module: [], scopes: [], slots: [], copies: [], idents: [], names: [], errors: [] }");
+    resolve(&files::sample(), &mut answers).expect("the sample is accepted");
+    let shown = format!("{answers:?}");
+    assert!(shown.contains("CopySlotFromParent { scope: ScopeId(3), parent: LocalSlotId(5), child: LocalSlotId(1) }"), "{shown}");
+}

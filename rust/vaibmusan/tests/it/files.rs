@@ -47,3 +47,8 @@ pub fn judged() -> Vec<(u64, Vec<u8>)> {
 pub fn sample() -> Vec<u8> {
     bytes("samples/offsets.nodes")
 }
+
+/// samples/offsets.star.
+pub fn source() -> Vec<u8> {
+    bytes("samples/offsets.star")
+}

@@ -56,7 +56,11 @@ fn written(file: &[u8], answers: &mut Answers) -> Vec<u8> {
         line(&mut out, &[format!("I {} {meaning}", i.node).as_bytes()]);
     }
     for e in answers.errors() {
-        let code = if e.kind == ErrorKind::NotFound { 1 } else { 2 };
+        let code = match e.kind {
+            ErrorKind::NotFound => 1,
+            ErrorKind::LocalInType => 2,
+            other => panic!("{other:?}"),
+        };
         line(&mut out, &[format!("E {} {code}", e.node).as_bytes(), e.name.bytes]);
     }
     out

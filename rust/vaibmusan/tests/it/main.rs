@@ -1,7 +1,9 @@
 //! The crate over the proved library, on the repository's fixed lists of files.
 mod answers;
 mod files;
+mod limits;
 mod listing;
+mod stack;
 mod trees;
 
 #[allow(dead_code)]

@@ -44,14 +44,12 @@ fn a_source_offset_comes_back() {
     assert_eq!((ident.source_offset, ident.resolved), (70_000, Resolved::Global(0)));
 }
 
+/// An Other inside an Other is no node: what it holds stands in its place, as in what tools/star2nodes writes.
 #[test]
-fn limits_of_the_format_and_of_judging() {
-    let long = "n".repeat(256);
-    assert_eq!(Script::new(Stmt::plain(long.as_str())).to_bytes(), Err(TooLarge { what: "bytes of a name", most: 255 }));
-    let source = Script::new(Stmt::plain(Id::from("x").at(1 << 24)));
-    assert_eq!(source.to_bytes().unwrap_err().to_string(), "source offset: more than 16777215");
-    let many = Script::new(Stmt::Block(vec![Stmt::Plain(None); 2048]));
-    assert_eq!(judge(&many.to_bytes().expect("it fits the format")), Err(Refusal::Counts));
-    let deep = (0..64).fold(Stmt::Plain(None), |s, _| Stmt::Block(vec![s]));
-    assert_eq!(judge(&Script::new(deep).to_bytes().expect("it fits the format")), Err(Refusal::Depth));
+fn nested_others_are_merged() {
+    let leaf = || Expr::Other(Vec::new());
+    let nested = Expr::other([leaf(), Expr::other(["a".into(), Expr::other(["b", "c"]), leaf()]), "d".into(), Expr::other([Expr::lambda(["p"], leaf())])]);
+    let flat = Expr::other(["a".into(), "b".into(), "c".into(), "d".into(), Expr::lambda(["p"], leaf())]);
+    let written = |e: Expr| Script::new(Stmt::plain(e)).to_bytes().expect("it is small");
+    assert_eq!(written(nested), written(flat));
 }

@@ -1,0 +1,20 @@
+//! The kinds of nodes (document 01, "The node file").
+pub const BLOCK: u8 = 0;
+pub const PLAIN: u8 = 1;
+pub const ASSIGN: u8 = 2;
+pub const MODIFY: u8 = 3;
+pub const IF: u8 = 4;
+pub const FOR: u8 = 5;
+pub const DEF: u8 = 6;
+pub const LOAD: u8 = 7;
+pub const NAME: u8 = 8;
+pub const TUPLE: u8 = 9;
+pub const PLACE: u8 = 10;
+pub const IDENT: u8 = 11;
+pub const LAMBDA: u8 = 12;
+pub const COMPR: u8 = 13;
+pub const OTHER: u8 = 14;
+pub const FOR_CLAUSE: u8 = 15;
+pub const IF_CLAUSE: u8 = 16;
+pub const PARAM: u8 = 17;
+pub const TYPE: u8 = 18;
