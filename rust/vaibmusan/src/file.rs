@@ -2,11 +2,10 @@
 use crate::ids::Name;
 use crate::kinds::{DEF, LAMBDA};
 
-/// A node: kind, number of nodes with all below it, value, place in the source.
+/// A node: kind, value, place in the source.
 #[derive(Clone, Copy)]
 pub struct Node {
     pub kind: u8,
-    pub size: usize,
     pub value: usize,
     pub source: u32,
 }
@@ -31,7 +30,7 @@ impl<'a> File<'a> {
 
     pub fn node(self, node: usize) -> Node {
         let at = 12 + 8 * node;
-        Node { kind: self.0[at] >> 3, size: self.number(at + 1, 2), value: self.number(at + 3, 2), source: self.number(at + 5, 3) as u32 }
+        Node { kind: self.0[at] >> 3, value: self.number(at + 3, 2), source: self.number(at + 5, 3) as u32 }
     }
 
     /// The node of that number, if there is one.
