@@ -3,13 +3,16 @@
 const code = document.getElementById("code");
 const drawing = code.querySelector("svg");
 const MARKS = ["lit", "here", "declares", "copying"];
+let resting; // the timer of a mouse that rests on a name
 
 /* Show the card of a name or a table's row, and light up all that belongs to its variable. */
 function show(at) {
+  clearTimeout(resting);
   for (const mark of MARKS)
     for (const old of document.querySelectorAll("." + mark)) old.classList.remove(mark);
   document.getElementById("hint").hidden = at !== null;
   for (const card of document.querySelectorAll(".card")) card.hidden = at === null || card.id !== at.dataset.card;
+  document.getElementById("cards").scrollTop = 0;
   drawing.replaceChildren();
   if (at === null) return;
   for (const same of document.querySelectorAll(`[data-of="${at.dataset.of}"]`)) same.classList.add("lit");
@@ -41,12 +44,3 @@ function draw(stops) {
     drawing.append(path);
   }
 }
-
-for (const kind of ["mouseover", "focusin"])
-  document.addEventListener(kind, event => {
-    const at = event.target.closest("[data-card]");
-    if (at !== null) show(at);
-  });
-document.addEventListener("keydown", event => {
-  if (event.key === "Escape") show(null);
-});
