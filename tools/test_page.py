@@ -249,6 +249,7 @@ class InBrowser(unittest.TestCase):
     def test_a_card_is_pinned(self):
         self.browser.click(f"#{self.inside}")
         self.assertEqual(self.browser.value("document.getElementById('pinned').innerText.slice(0, 6)"), "Pinned")
+        self.assertEqual(self.marked("name[aria-current]"), [self.inside])
         self.browser.point(f"#{self.own}")
         self.rest()
         self.browser.press("ArrowLeft")
@@ -308,8 +309,9 @@ class InBrowser(unittest.TestCase):
         self.browser.type("ock")
         self.browser.press("Enter")
         self.assertEqual(self.focused(), node(self.script, b"clock", 0))
-        self.browser.press("/", "Escape")
+        self.browser.press("Enter", "/", "Escape")
         self.assertEqual((self.browser.value(listed), self.marked("found")), ([], []))
+        self.assertIn("slot 1 of scope 2", *self.shown())
 
     def test_an_underline_is_not_taken_for_an_underscore(self):
         """Down through an `_`: its ink, paper, the line's ink."""

@@ -10,14 +10,12 @@ function stopAt(link) {
 /* Of the rows above (-1) or below (1) the nearest, there the link with the nearest beginning. */
 function inNextRow(links, from, way) {
   const here = from.getBoundingClientRect();
-  let best, least = Infinity;
-  for (const link of links) {
+  const places = links.map(link => {
     const box = link.getBoundingClientRect();
-    const rows = Math.round(way * (box.top - here.top) / here.height);
-    const distance = rows * innerWidth * 9 + Math.abs(box.left - here.left);
-    if (rows > 0 && distance < least) [best, least] = [link, distance];
-  }
-  return best;
+    return { link, rows: Math.round(way * (box.top - here.top) / here.height), aside: Math.abs(box.left - here.left) };
+  });
+  const beyond = places.filter(place => place.rows > 0);
+  return beyond.sort((one, other) => one.rows - other.rows || one.aside - other.aside)[0]?.link;
 }
 
 /* Where a key leads from a link; nowhere for other keys, and at the ends. */

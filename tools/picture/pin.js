@@ -8,6 +8,8 @@ let mouse = ""; // where it was last
 
 /* Keep a card until Escape; null: none is kept or shown. */
 function pin(at) {
+  pinned?.removeAttribute("aria-current");
+  at?.setAttribute("aria-current", "true");
   pinned = at;
   document.getElementById("pinned").hidden = at === null;
   aside.classList.toggle("pinned", at !== null);

@@ -21,8 +21,9 @@ function search() {
   if (count) stopAt(firstFound());
 }
 
-/* Escape empties the field, and the keyboard goes back to the script. */
-function leaveSearch() {
+/* Escape empties the field, and the keyboard goes back to the script; a pinned card stays. */
+function leaveSearch(event) {
+  event.stopPropagation();
   field.value = "";
   search();
   code.querySelector('a[tabindex="0"]')?.focus();
@@ -32,7 +33,7 @@ document.getElementById("search").hidden = false;
 field.addEventListener("input", search);
 field.addEventListener("keydown", event => {
   if (event.key === "Enter") firstFound()?.click();
-  if (event.key === "Escape") leaveSearch();
+  if (event.key === "Escape") leaveSearch(event);
 });
 document.getElementById("found").addEventListener("click", () => pin(null));
 document.addEventListener("keydown", event => {

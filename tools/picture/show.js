@@ -2,6 +2,8 @@
 
 const code = document.getElementById("code");
 const drawing = code.querySelector("svg");
+const TIP = `<marker id="tip" viewBox="0 0 8 8" refX="7" refY="4" markerWidth="6" markerHeight="6" orient="auto">
+  <path d="M0 0L8 4L0 8Z"/></marker>`;
 const MARKS = ["lit", "here", "declares", "copying"];
 let resting; // the timer of a mouse that rests on a name
 
@@ -29,7 +31,7 @@ function draw(stops) {
   const corner = code.getBoundingClientRect();
   drawing.setAttribute("width", code.scrollWidth);
   drawing.setAttribute("height", code.scrollHeight);
-  drawing.innerHTML = '<marker id="tip" viewBox="0 0 8 8" refX="7" refY="4" markerWidth="6" markerHeight="6" orient="auto"><path d="M0 0L8 4L0 8Z"/></marker>';
+  drawing.innerHTML = TIP;
   const boxes = stops.map(stop => stop.getBoundingClientRect());
   for (let i = 1; i < boxes.length; i++) {
     const [from, to] = [boxes[i - 1], boxes[i]];
