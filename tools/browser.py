@@ -12,7 +12,19 @@ import threading
 COMMANDS = ("chromium", "chromium-browser", "google-chrome")
 FLAGS = ("--headless", "--no-sandbox", "--remote-debugging-pipe", "--disable-gpu", "--hide-scrollbars",
          "--disable-background-networking", "--no-first-run")
-PATIENCE = 120  # seconds, then the browser is ended
+PATIENCE = 120  # seconds with a page, then the browser is ended
+# The numbers by which a page knows the keys that are pressed here.
+KEYS = {"Tab": 9, "Enter": 13, "Escape": 27, "End": 35, "Home": 36, "ArrowLeft": 37, "ArrowUp": 38,
+        "ArrowRight": 39, "ArrowDown": 40, "/": 191}
+# An element's picture, made elsewhere and given as base64, as rows of red, green and blue.
+PIXELS = """(async coded => {
+  const picture = await createImageBitmap(new Blob([Uint8Array.from(atob(coded), each => each.charCodeAt(0))]));
+  const context = new OffscreenCanvas(picture.width, picture.height).getContext("2d");
+  context.drawImage(picture, 0, 0);
+  const { data } = context.getImageData(0, 0, picture.width, picture.height);
+  return Array.from({ length: picture.height }, (_, y) => Array.from({ length: picture.width },
+    (_, x) => [...data.slice(4 * (y * picture.width + x), 4 * (y * picture.width + x) + 3)]));
+})"""
 
 
 def installed():
@@ -46,8 +58,7 @@ class Browser:
             stdin=subprocess.DEVNULL, stdout=subprocess.DEVNULL, stderr=subprocess.DEVNULL)
         for each in (to_browser, from_browser, reading, writing):
             os.close(each)
-        self.watchdog = threading.Timer(PATIENCE, self.process.kill)
-        self.watchdog.start()
+        self.watch()
         self.incoming = os.fdopen(back, "rb")
         page = next(each for each in self.ask("Target.getTargets")["targetInfos"] if each["type"] == "page")
         self.session = self.ask("Target.attachToTarget", targetId=page["targetId"], flatten=True)["sessionId"]
@@ -58,6 +69,11 @@ class Browser:
         scheme = {"name": "prefers-color-scheme", "value": "dark" if self.dark else "light"}
         self.ask("Emulation.setEmulatedMedia", features=[scheme])
         return self
+
+    def watch(self):
+        """End a browser that does not answer."""
+        self.watchdog = threading.Timer(PATIENCE, self.process.kill)
+        self.watchdog.start()
 
     def __exit__(self, *_):
         self.watchdog.cancel()
@@ -96,28 +112,63 @@ class Browser:
         return message
 
     def open(self, path):
+        """Show a page, the mouse in its corner."""
+        self.watchdog.cancel()
+        self.watch()
         before = self.loaded
+        self.move(0, 0)
         self.ask("Page.navigate", url=path.resolve().as_uri())
         while self.loaded == before:
             self.receive()
 
     def value(self, script):
-        """What a script gives in the page."""
-        answer = self.ask("Runtime.evaluate", expression=script, returnByValue=True)
+        """What a script gives in the page; a promise's value is waited for."""
+        answer = self.ask("Runtime.evaluate", expression=script, returnByValue=True, awaitPromise=True)
         if "exceptionDetails" in answer:
             raise RuntimeError(str(answer["exceptionDetails"]))
         return answer["result"].get("value")
 
+    def box(self, selector):
+        """Left, top, width and height of an element in the window, scrolled to it if need be; None without one."""
+        return self.value(f"""(() => {{
+          const found = document.querySelector({json.dumps(selector)});
+          if (found === null) return null;
+          found.scrollIntoViewIfNeeded();
+          const box = found.getBoundingClientRect();
+          return [box.x, box.y, box.width, box.height];
+        }})()""")
+
+    def move(self, x, y):
+        self.ask("Input.dispatchMouseEvent", type="mouseMoved", x=x, y=y)
+
     def point(self, selector):
-        """Move the mouse to the middle of an element."""
-        box = self.value(f"(() => {{ const b = document.querySelector({json.dumps(selector)}).getBoundingClientRect();"
-                         " return [b.x + b.width / 2, b.y + b.height / 3]; })()")
-        self.ask("Input.dispatchMouseEvent", type="mouseMoved", x=box[0], y=box[1])
+        """Move the mouse to the middle of an element; whether there is one."""
+        if (box := self.box(selector)) is None:
+            return False
+        left, top, width, height = box
+        self.at = left + width / 2, top + height / 3
+        self.move(*self.at)
+        return True
 
-    def press(self, key):
-        code = {"Tab": 9, "Escape": 27}[key]
-        for kind in ("rawKeyDown", "keyUp"):
-            self.ask("Input.dispatchKeyEvent", type=kind, key=key, code=key, windowsVirtualKeyCode=code)
+    def click(self, selector):
+        """Point at an element and press the mouse there."""
+        self.point(selector)
+        for kind in ("mousePressed", "mouseReleased"):
+            self.ask("Input.dispatchMouseEvent", type=kind, x=self.at[0], y=self.at[1], button="left", clickCount=1)
 
-    def screenshot(self):
-        return base64.b64decode(self.ask("Page.captureScreenshot", format="png")["data"])
+    def press(self, *keys):
+        for key in keys:
+            for kind in ("rawKeyDown", "keyUp"):
+                self.ask("Input.dispatchKeyEvent", type=kind, key=key, code=key, windowsVirtualKeyCode=KEYS[key])
+
+    def type(self, text):
+        self.ask("Input.insertText", text=text)
+
+    def screenshot(self, **part):
+        return base64.b64decode(self.ask("Page.captureScreenshot", format="png", **part)["data"])
+
+    def pixels(self, selector, below=0):
+        """The rows of an element's picture, and some more below it, as the screen shows them."""
+        left, top, width, height = self.box(selector)
+        picture = self.screenshot(clip={"x": left, "y": top, "width": width, "height": height + below, "scale": 1})
+        return self.value(f"{PIXELS}('{base64.b64encode(picture).decode()}')")

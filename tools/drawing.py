@@ -19,18 +19,26 @@ from readings.second_judge import judge  # noqa: E402, F401
 accepted = FILES["accepted"]
 
 
-def drawn(source, globals=(), entries=()):
+def counted(data):
+    """The mirror's listing with the number of readers at the end of each B line, as request P7 has it."""
+    lines = mirror.answer(data).decode().splitlines()
+    readers = [line.split()[4] for line in lines if line.startswith("I ")]
+    return "".join(
+        line + f" {readers.count(line.split()[1])}" * line.startswith("B ") + "\n" for line in lines).encode()
+
+
+def drawn(source, globals=(), entries=(), listing=mirror.answer):
     """The Script of Starlark source; an entry is a name, whether it is public, and its slot."""
     root, names = convert(source)
     numbers = {name: number for number, name in enumerate(names)}
     for name in [*globals, *(name for name, _, _ in entries)]:
         numbers.setdefault(name, len(numbers))
     listed = [(numbers[name], public, slot) for name, public, slot in entries]
-    return drawn_file(source, File(False, root, list(numbers), listed, [numbers[name] for name in globals]))
+    return drawn_file(source, File(False, root, list(numbers), listed, [numbers[name] for name in globals]), listing)
 
 
-def drawn_file(source, file):
-    return Script(source, Resolved(file, read_listing(mirror.answer(pack(file)))))
+def drawn_file(source, file, listing=mirror.answer):
+    return Script(source, Resolved(file, read_listing(listing(pack(file)))))
 
 
 def sample():

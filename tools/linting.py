@@ -15,11 +15,8 @@ def findings(file, listing):
 
 
 def is_unread(binding, file, nodes):
-    """Whether a name is never read, here or elsewhere; a local that begins with `_` need not be."""
-    if binding.reads != 0 or binding.source is None:
-        return False
-    begins_so = spelling(file, nodes[binding.source]).startswith("_")
-    return not begins_so if binding.local else not binding.public
+    """Whether this script declares a name and never reads it."""
+    return binding.source is not None and binding.unread(file.names[nodes[binding.source].value])
 
 
 def spelling(file, node):

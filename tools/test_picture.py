@@ -5,7 +5,7 @@ import tempfile
 import unittest
 from pathlib import Path
 
-from drawing import TOP, accepted, drawn, drawn_file, marks, mirror, sample
+from drawing import TOP, accepted, counted, drawn, drawn_file, marks, mirror, sample
 from nodefile import ASSIGN, IDENT, NAME, File, Node, pack, unpack
 from picture.listing import REFUSALS, NotResolved, Unfit, read_listing
 from picture.meaning import Resolved
@@ -106,6 +106,13 @@ class Text(unittest.TestCase):
         lines = picture(drawn(b"a = 1\rif a:\r\n\tb = 2\n")).splitlines()
         self.assertEqual(lines[4:10:2], ["   1 | a = 1", "   2 | if a:", "   3 |     b = 2"])
 
+    def test_names_that_are_never_read(self):
+        source = b"_a = 1\ndef f(b, _c): return b\n"
+        text = picture(drawn(source, listing=counted))
+        self.assertIn("m0    _a    variable, never read  private  once             1:1", text)
+        self.assertEqual(text.count("never read"), 1)
+        self.assertNotIn("never read", picture(drawn(source)))
+
     def test_the_picture_in_docs(self):
         self.assertEqual(picture(sample()) + "\n", (TOP / "docs/images/offsets.txt").read_text())
 
@@ -138,12 +145,14 @@ I 7 L 0 1
 I 8 G 0 -
 """
         Resolved(file, read_listing(fitting.encode()))
+        Resolved(file, read_listing(fitting.replace("captured 3", "captured 3 1").encode()))
         for old, new in (
             ("answer 0", "answered 0"), ("copies 1", "copies 2"), ("C 2", "C 9"), ("C 2 0", "C 2 7"),
             ("C 2 0 0", "C 2 0 1"), ("I 7 L 0 1\n", ""), ("I 7 L 0 1", "I 7 L 0 0"), ("I 7 L 0 1", "I 7 M 0 1"),
             ("I 8 G 0", "I 8 G 1"),
             ("I 7 L 0 1", "I 7 L 0 9"), ("free 1", "free -"), ("free 1", "free 0"), ("captured 3", "captured 7"),
-            ("captured 3", "captured 99"), ("S 2 0: a\n", ""), ("M 0 f public\n", "M 0 f public\nB\n"),
+            ("captured 3", "captured 99"), ("S 2 0: a\n", ""), ("captured 3", "captured 3 0"), ("free 1", "free 1 1"),
+            ("M 0 f public\n", "M 0 f public\nB\n"),
         ):
             with self.subTest(new), self.assertRaises(Unfit):
                 Resolved(file, read_listing(fitting.replace(old, new).encode()))

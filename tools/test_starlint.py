@@ -6,21 +6,13 @@ import tempfile
 import unittest
 from pathlib import Path
 
-from drawing import TOP, mirror
+from drawing import TOP, counted, mirror
 from exporting import Lists, file_of
 from linting import findings
 from nodefile import pack
 from picture.listing import read_listing
 
 MIRROR = str(TOP / "tests/readings/mirror.py")
-
-
-def counted(data):
-    """The mirror's listing with the number of readers at the end of each B line, as request P7 has it."""
-    lines = mirror.answer(data).decode().splitlines()
-    readers = [line.split()[4] for line in lines if line.startswith("I ")]
-    return "".join(
-        line + f" {readers.count(line.split()[1])}" * line.startswith("B ") + "\n" for line in lines).encode()
 
 
 def found(source, listing):

@@ -12,7 +12,7 @@ WHY = {
     2: "It means a local variable; a type may not read one.",
 }
 
-MOST_PLACES = 40  # as many places a card lists
+MOST_PLACES = 40  # as many places are listed together
 
 
 def row_id(meaning):
@@ -38,9 +38,9 @@ class Cards:
             held.setdefault(self.group(mark.meaning, mark.node), []).append(mark)
 
     def group(self, meaning, node=None):
-        """What all names of one variable have in common; an error has it alone."""
+        """What all names of one variable have in common; so have errors of one name and kind."""
         if meaning.kind == ERROR:
-            return f"e{node}"
+            return f"e{meaning.number}-{self.resolved.tree.nodes[node].value}"
         return f"g{meaning.number}" if meaning.kind == GLOBAL else f"b{meaning.binding}"
 
     def attributes(self, meaning, node=None):
@@ -60,23 +60,31 @@ class Cards:
         return None if meaning.binding is None else self.resolved.bindings[meaning.binding].source
 
     def target(self, mark):
-        """Where a click on a name leads: the declaration, or its row of a table."""
+        """Where the link of a name leads: the declaration, or its row of a table."""
         if mark.meaning.kind == ERROR:
-            return f"error{mark.node}"
+            return f"row-{self.group(mark.meaning, mark.node)}"
         source = self.source(mark.meaning)
         return row_id(mark.meaning) if source is None or mark.sets else f"n{source}"
+
+    def count(self, group):
+        """In how many places a variable stands."""
+        return len(self.setters.get(group, [])) + len(self.readers.get(group, []))
+
+    def wrong(self):
+        """The errors: of each name that has some, its group and its places."""
+        return [(group, marks) for group, marks in self.readers.items() if marks[0].meaning.kind == ERROR]
 
     def articles(self):
         return self.made.values()
 
     def article(self, key, meaning, group):
         lines = {ERROR: self.error, GLOBAL: self.global_}.get(meaning.kind, self.variable)(meaning, group)
-        return f'<article class="card {meaning.kind}" id="{key}" hidden>{"".join(lines)}</article>'
+        return f'<article class="card roving {meaning.kind}" id="{key}" hidden>{"".join(lines)}</article>'
 
     def error(self, meaning, group):
         name = shown(self.readers[group][0].name)
         yield title(name, f"error: {ERRORS[meaning.number]}", "error")
-        yield f"<p>{WHY[meaning.number]}</p>"
+        yield f"<p>{WHY[meaning.number]}</p><dl>" + self.places("Read at", self.readers[group]) + "</dl>"
 
     def global_(self, meaning, group):
         yield title(shown(self.resolved.file.names[self.resolved.file.globals[meaning.number]]),
@@ -91,7 +99,8 @@ class Cards:
         yield "<dl>" + self.declaration(binding)
         bound = "any number of times" if binding.any else "once"
         yield f"<dt>Is</dt><dd>{'public' if binding.public else 'private'}, bound {bound}"
-        yield ", captured by a function inside</dd>" if binding.captured else "</dd>"
+        yield ", captured by a function inside" * binding.captured
+        yield ", <strong>never read</strong>" * self.resolved.unread(meaning.binding) + "</dd>"
         yield self.places("Bound at", self.setters.get(group, []))
         yield self.places("Read at", self.readers.get(group, [])) + self.namesakes(meaning.binding) + "</dl>"
 
@@ -100,7 +109,7 @@ class Cards:
         _, name = self.resolved.variable(number)
         others = [self.resolved.own(other) for (_, spelled), other in self.resolved.bound.items()
                   if spelled == name and other != number]
-        links = ", ".join(link(row_id(own), label(own)) for own in others[:MOST_PLACES])
+        links = some(link(row_id(own), label(own)) for own in others)
         return f"<dt>Not</dt><dd>{links}: the same name, another variable</dd>" if others else ""
 
     def declaration(self, binding):
@@ -120,9 +129,17 @@ class Cards:
         yield "</ol>"
 
     def places(self, what, marks):
-        links = ", ".join(link(f"n{mark.node}", at(self.script, mark.offset)) for mark in marks[:MOST_PLACES])
-        more = f" and {len(marks) - MOST_PLACES} more" if len(marks) > MOST_PLACES else ""
-        return f"<dt>{what}</dt><dd>{links or 'nowhere'}{more}</dd>"
+        return f"<dt>{what}</dt><dd>{self.place_links(marks) or 'nowhere'}</dd>"
+
+    def place_links(self, marks):
+        return some(link(f"n{mark.node}", at(self.script, mark.offset)) for mark in marks)
+
+
+def some(links):
+    """Links after each other, the first ones of many."""
+    links = list(links)
+    more = f" and {len(links) - MOST_PLACES} more" if len(links) > MOST_PLACES else ""
+    return ", ".join(links[:MOST_PLACES]) + more
 
 
 def title(name, what, kind):

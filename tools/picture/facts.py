@@ -52,7 +52,7 @@ def cells(script, row):
     return (
         row.slot,
         name_of(script, row.binding),
-        row.what,
+        row.what + ", never read" * script.resolved.unread(row.binding),
         "public" if binding.public else "private",
         "any" if binding.any else "once",
         "captured" if binding.captured else "",
@@ -61,7 +61,7 @@ def cells(script, row):
 
 
 def name_of(script, number):
-    return shown(script.resolved.file.names[script.resolved.variable(number)[1]])
+    return shown(script.resolved.name(number))
 
 
 def at(script, offset):

@@ -60,6 +60,11 @@ class Binding:
     source: int | None
     reads: int | None = None
 
+    def unread(self, name):
+        """Whether it is never read, here or elsewhere; a local whose name begins with `_` need not be."""
+        wanted = not name.startswith(b"_") if self.local else not self.public
+        return self.reads == 0 and self.source is not None and wanted
+
 
 @dataclass
 class Listing:

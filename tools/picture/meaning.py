@@ -1,5 +1,6 @@
 """What each name of a script means: a node file's names with the answers of its listing."""
 
+from collections import Counter
 from dataclasses import dataclass
 
 from nodefile import IDENT, NAME, NAMED
@@ -53,6 +54,22 @@ class Resolved:
             raise Unfit("the listing is of another node file")
         self.slots = self.filled_slots()
         self.marks = sorted(self.all_marks(), key=lambda mark: mark.offset)
+        self.check_reads()
+
+    def check_reads(self):
+        """Where the listing counts readers, they must be those that are marked."""
+        read = Counter(mark.meaning.binding for mark in self.marks if not mark.sets)
+        for number, binding in enumerate(self.bindings):
+            if binding.reads not in (None, read[number]):
+                raise Unfit(f"binding {number} is not read {binding.reads} times")
+
+    def name(self, number):
+        """How a binding is spelled."""
+        return self.file.names[self.variable(number)[1]]
+
+    def unread(self, number):
+        """Whether a binding is said to be never read."""
+        return self.bindings[number].unread(self.name(number))
 
     def variable(self, number):
         """The block and the name of a binding."""

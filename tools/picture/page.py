@@ -6,9 +6,11 @@ from html import escape
 from pathlib import Path
 
 from .cards import Cards, link, row_id
-from .facts import HEADINGS, at, cells, errors, module_rows, scope_rows, scope_title
-from .meaning import ERROR, GLOBAL, LOCAL, MODULE, Mark, Meaning
+from .facts import HEADINGS, cells, module_rows, scope_rows, scope_title
+from .meaning import GLOBAL, LOCAL, Mark, Meaning
+from .overview import NEVER_READ, error_list, overview
 from .script import label, shown, width
+from .search import search
 
 HERE = Path(__file__).parent
 HEAD = """<!doctype html>
@@ -17,15 +19,12 @@ HEAD = """<!doctype html>
 <meta http-equiv="Content-Security-Policy"
   content="default-src 'none'; style-src 'unsafe-inline'; script-src 'unsafe-inline'">
 <meta name="viewport" content="width=device-width, initial-scale=1">"""
+CARD_TOP = """<p id="pinned" hidden>Pinned <button type="button">Unpin (Esc)</button></p>
+<div id="cards"><p id="hint">Point at a name, or move to one with the Tab key and the arrow keys: this shows what it
+means, where it is declared and who else reads it. A click or Enter pins the card, a second one goes to the declaration,
+Escape clears. <kbd>/</kbd> finds a name.</p>"""
 LABEL_SIZE = 0.78  # of a label's letters, as in page.css
-LEGEND = (
-    ("module", "m0", "module slot 0"),
-    ("local", "2.5", "scope 2, slot 5"),
-    ("local copied", "3.1←2.5", "scope 3, slot 1, copied from scope 2, slot 5"),
-    ("global", "g0", "global 0"),
-    ("error", "!", "error"),
-    ("sets", "bold", "a value is bound here"),
-)
+SCRIPTS = ("show.js", "pin.js", "keys.js", "search.js")
 
 
 @dataclass
@@ -40,52 +39,31 @@ class Opener:
 def page_of(script, title):
     """The page's text."""
     cards = Cards(script)
+    lines, slots = list(code(script, cards)), list(tables(script, cards))  # what has cards, before all cards
     title = escape(title)
     return "\n".join([
         HEAD,
         f"<title>{title}: what each name means</title>",
         f"<style>\n{(HERE / 'page.css').read_text()}</style>",
-        f"<header><h1>{title}</h1>", summary(script), legend(), "</header>",
-        '<main><div id="left">',
-        *error_list(script),
-        *code(script, cards),
-        *tables(script, cards),
-        '</div><aside aria-label="The name pointed at"><p id="hint">Point at a name, or move to one with the Tab key: '
-        "this shows what it means, where it is declared and who else reads it. A click goes to the declaration.</p>",
+        f"<header><h1>{title}</h1>", *overview(script), "</header>",
+        '<main><div id="script">',
+        *error_list(cards),
+        *lines,
+        '</div><aside aria-label="Search, and the card of a name">',
+        *search(cards),
+        CARD_TOP,
         *cards.articles(),
-        "</aside></main>",
-        f"<script>\n{(HERE / 'page.js').read_text()}</script>",
+        '</div></aside><div id="tables" class="roving" role="group" aria-label="All slots">',
+        *slots,
+        "</div></main>",
+        "<script>", *((HERE / name).read_text() for name in SCRIPTS), "</script>",
         "</html>\n",
     ])
 
 
-def summary(script):
-    kinds = [mark.meaning.kind for mark in script.resolved.marks]
-    copied = sum(mark.meaning.copied for mark in script.resolved.marks)
-    count = kinds.count(ERROR)
-    wrong = f'<strong class="wrong">{count} error{"s" * (count > 1)}</strong>' if count else "no errors"
-    return (f"<p>{len(kinds)} names: {kinds.count(MODULE)} of the module, {kinds.count(LOCAL)} local "
-            f"({copied} read from a copy), {kinds.count(GLOBAL)} global, {wrong}.</p>")
-
-
-def legend():
-    items = (f'<li><span class="name {kind}">{escape(text)}</span> {escape(what)}</li>' for kind, text, what in LEGEND)
-    return f'<ul id="legend">{"".join(items)}</ul>'
-
-
-def error_list(script):
-    found = errors(script)
-    if found:
-        yield '<section class="wrong"><h2>Errors</h2><ul>'
-        for mark, what in found:
-            yield (f'<li id="error{mark.node}"><a href="#n{mark.node}">{at(script, mark.offset)}</a> '
-                   f"<code>{escape(shown(mark.name))}</code>: {what}</li>")
-        yield "</ul></section>"
-
-
 def code(script, cards):
     """The script's lines, numbered; each name a link to its declaration."""
-    yield '<div id="code"><svg aria-hidden="true"></svg>'
+    yield '<div id="code" class="roving" role="group" aria-label="The script"><svg aria-hidden="true"></svg>'
     spots = sorted([*script.resolved.marks, *openers(script)], key=lambda spot: spot.offset)
     for number, pieces in script.lines(spots):
         room, line = math.inf, []  # from the right: how far the next name is
@@ -112,8 +90,9 @@ def piece(cards, text, spot, room):
         return escape(text)
     if isinstance(spot, Opener):
         return f'<span class="opens" id="s{spot.scope}" title="scope {spot.scope}">{escape(text)}</span>'
-    kinds = " copied" * spot.meaning.copied + " sets" * spot.sets
-    below = label(spot.meaning, "←")
+    unread = spot.sets and cards.resolved.unread(spot.meaning.binding)
+    kinds = " copied" * spot.meaning.copied + " sets" * spot.sets + " unread" * unread
+    below = label(spot.meaning, "←") + f" {NEVER_READ}" * unread
     gap = LABEL_SIZE * len(below) + 0.6 - room
     style = f' style="margin-right:{gap:.1f}ch"' if gap > 0 else ""
     return (f'<a class="name {spot.meaning.kind}{kinds}" id="n{spot.node}" href="#{cards.target(spot)}" '
@@ -130,7 +109,7 @@ def tables(script, cards):
         rows = [slot_row(script, cards, row, Meaning(LOCAL, 0, row.binding, resolved.chain(scope, slot)))
                 for slot, row in zip(sorted(slots), scope_rows(script, scope))]
         yield from table(scope_title(script, scope), HEADINGS, rows)
-    rows = [f'<tr id="row-g{number}" {cards.attributes(Meaning(GLOBAL, number))}><td>g{number}</td>'
+    rows = [f'<tr id="row-g{number}" tabindex="-1" {cards.attributes(Meaning(GLOBAL, number))}><td>g{number}</td>'
             f"<td><code>{escape(shown(resolved.file.names[name]))}</code></td></tr>"
             for number, name in enumerate(resolved.file.globals)]
     yield from table("globals", HEADINGS[:2], rows)
@@ -149,5 +128,5 @@ def slot_row(script, cards, row, meaning):
     place = "" if row.declared is None else link(f"n{script.resolved.bindings[row.binding].source}", place)
     rest = "".join(f"<td>{cell}</td>" for cell in (what, *flags, place))
     copied = ' class="copied"' * meaning.copied
-    return (f'<tr id="{row_id(meaning)}"{copied} {cards.attributes(meaning)}><td>{slot}</td>'
+    return (f'<tr id="{row_id(meaning)}" tabindex="-1"{copied} {cards.attributes(meaning)}><td>{slot}</td>'
             f"<td><code>{name}</code></td>{rest}</tr>")

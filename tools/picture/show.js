@@ -2,14 +2,19 @@
 
 const code = document.getElementById("code");
 const drawing = code.querySelector("svg");
+const TIP = `<marker id="tip" viewBox="0 0 8 8" refX="7" refY="4" markerWidth="6" markerHeight="6" orient="auto">
+  <path d="M0 0L8 4L0 8Z"/></marker>`;
 const MARKS = ["lit", "here", "declares", "copying"];
+let resting; // the timer of a mouse that rests on a name
 
 /* Show the card of a name or a table's row, and light up all that belongs to its variable. */
 function show(at) {
+  clearTimeout(resting);
   for (const mark of MARKS)
     for (const old of document.querySelectorAll("." + mark)) old.classList.remove(mark);
   document.getElementById("hint").hidden = at !== null;
   for (const card of document.querySelectorAll(".card")) card.hidden = at === null || card.id !== at.dataset.card;
+  document.getElementById("cards").scrollTop = 0;
   drawing.replaceChildren();
   if (at === null) return;
   for (const same of document.querySelectorAll(`[data-of="${at.dataset.of}"]`)) same.classList.add("lit");
@@ -26,7 +31,7 @@ function draw(stops) {
   const corner = code.getBoundingClientRect();
   drawing.setAttribute("width", code.scrollWidth);
   drawing.setAttribute("height", code.scrollHeight);
-  drawing.innerHTML = '<marker id="tip" viewBox="0 0 8 8" refX="7" refY="4" markerWidth="6" markerHeight="6" orient="auto"><path d="M0 0L8 4L0 8Z"/></marker>';
+  drawing.innerHTML = TIP;
   const boxes = stops.map(stop => stop.getBoundingClientRect());
   for (let i = 1; i < boxes.length; i++) {
     const [from, to] = [boxes[i - 1], boxes[i]];
@@ -41,12 +46,3 @@ function draw(stops) {
     drawing.append(path);
   }
 }
-
-for (const kind of ["mouseover", "focusin"])
-  document.addEventListener(kind, event => {
-    const at = event.target.closest("[data-card]");
-    if (at !== null) show(at);
-  });
-document.addEventListener("keydown", event => {
-  if (event.key === "Escape") show(null);
-});
