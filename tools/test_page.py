@@ -316,13 +316,15 @@ class InBrowser(unittest.TestCase):
     def test_an_underline_is_not_taken_for_an_underscore(self):
         """Down through an `_`: its ink, paper, the line's ink."""
         script = self.open(drawn(b"no_a = 1\ndef f(b_c): return lambda: b_c + d_e\n"))
-        for mark in script.resolved.marks:
-            if b"_" in mark.name:
-                rows = self.browser.pixels(f"#n{mark.node}", below=6)
-                letter, at = len(rows[0]) / len(mark.name), mark.name.index(b"_")
-                columns = range(round((at + 0.2) * letter), round((at + 0.8) * letter))
-                with self.subTest(mark.name):
-                    self.assertTrue(any(runs_of_ink(rows, column) > 1 for column in columns))
+        self.browser.press("/")
+        self.browser.type("no_")
+        places = [(f"#n{mark.node}", mark.name) for mark in script.resolved.marks if b"_" in mark.name]
+        for place, name in [*places, ("#found li:not([hidden]) a", b"no_a")]:
+            rows = self.browser.pixels(place, below=6)
+            letter, at = len(rows[0]) / len(name), name.index(b"_")
+            columns = range(round((at + 0.2) * letter), round((at + 0.8) * letter))
+            with self.subTest(place):
+                self.assertTrue(any(runs_of_ink(rows, column) > 1 for column in columns))
 
     def test_rows_of_the_tables_light_up_too(self):
         self.browser.point("[id='row-2.5'] td")

@@ -21,6 +21,12 @@ function search() {
   if (count) stopAt(firstFound());
 }
 
+/* Enter goes to the first; the key ends here, not on the name where the keyboard is then. */
+function takeFirst(event) {
+  event.preventDefault();
+  firstFound()?.click();
+}
+
 /* Escape empties the field, and the keyboard goes back to the script; a pinned card stays. */
 function leaveSearch(event) {
   event.stopPropagation();
@@ -32,7 +38,7 @@ function leaveSearch(event) {
 document.getElementById("search").hidden = false;
 field.addEventListener("input", search);
 field.addEventListener("keydown", event => {
-  if (event.key === "Enter") firstFound()?.click();
+  if (event.key === "Enter") takeFirst(event);
   if (event.key === "Escape") leaveSearch(event);
 });
 document.getElementById("found").addEventListener("click", () => pin(null));
