@@ -1,5 +1,5 @@
 -- The steps of `collect_defines_in_def`: a function's parameter variables are counted, its block is collected, and its stretch of the bindings kept.
-use Prim.Native.Nat.{ℕ, _+_, _*_, _%_, _<_, _≤_}
+use Prim.Native.Nat.{ℕ, _+_, _*_, _<_, _≤_}
 use mathlib.Core.Path.{_≡_, refl, sym, ap, _∙_}
 use mathlib.Core.Bool.{true, false, true≢false}
 use mathlib.Core.List.{List, [], _∷_, _++_}
@@ -13,6 +13,7 @@ use Rattle.lexical.specs.Block.{block}
 use Rattle.lexical.specs.Second.{declareFn, keyed, rows, rowNames}
 use Rattle.lexical.specs.Records.{paramsOf}
 use Rattle.nodefile.specs.Reads.{Reads}
+use Rattle.store.specs.Words.{paramsWord}
 use Rattle.store.specs.declared.ids.State.{State}
 use Rattle.store.specs.declared.ids.Marks.{Marks}
 use Rattle.store.specs.Sections.{Mem, mem}
@@ -67,7 +68,7 @@ module _ {part : List ℕ} {at scope : ℕ} {s : State} {m : Mem} (p : PreFuncti
     pub f-few : n < 2048
     f-few = omega (arith, p .within, p .below)
 
-    module _ {w : List ℕ} (put : w ≡ set (m .w) (12288 + scope) (n * 65536 + getD (m .w) (12288 + scope) 0 % 65536)) where
+    module _ {w : List ℕ} (put : w ≡ set (m .w) (12288 + scope) (paramsWord n (getD (m .w) (12288 + scope) 0))) where
       abbrev f-mem : Mem
       f-mem = mem (m .binds) w (m .t)
 
@@ -87,7 +88,7 @@ module _ {part : List ℕ} {at scope : ℕ} {s : State} {m : Mem} (p : PreFuncti
 
       pub f-pre : Pre part at (blockOf scope (s .bindings)) s f-mem
       f-pre = record {
-        long = record { binds = p .long .binds; w = ap length put ∙ length-set (m .w) (12288 + scope) (n * 65536 + getD (m .w) (12288 + scope) 0 % 65536) ∙ p .long .w; t = p .long .t };
+        long = record { binds = p .long .binds; w = ap length put ∙ length-set (m .w) (12288 + scope) (paramsWord n (getD (m .w) (12288 + scope) 0)) ∙ p .long .w; t = p .long .t };
         within = p .within;
         ghost = f-ghost (p .ghost);
       }

@@ -1,11 +1,12 @@
 -- What the stores of walk two do to the relation: a scope's parameter variables, and a function's stretch of the bindings.
-use Prim.Native.Nat.{ℕ, _+_, _*_, _%_, _<_}
+use Prim.Native.Nat.{ℕ, _+_, _<_}
 use mathlib.Core.Path.{_≡_}
 use mathlib.Core.Bool.{Bool}
 use mathlib.Core.List.{List}
 use native.Mathlib.Omega.{arith}
 use lib.ListN.{length, getD, set}
 use Rattle.lexical.specs.State.{Binding, St}
+use Rattle.store.specs.Words.{paramsWord}
 use Rattle.store.specs.declared.ids.State.{State}
 use Rattle.store.specs.Sections.{mem}
 use Rattle.store.specs.Meanings.{Range}
@@ -20,7 +21,7 @@ use Rattle.store.specs.Laws.Names.{names-skip, ranges-put, scratch-skip}
 module _ {W : World} {env : List Binding} {ss : List ℕ} {cap : ℕ → Bool} {st : St} {s : State} {binds w t : List ℕ} (r : Rel W env ss cap st s (mem binds w t)) where
   -- scope k has n parameter variables: `set_param_count`
   pub rel-params : length w ≡ 12544 → (P : ℕ → ℕ) (k n : ℕ) → k < 256 → n < 65536 → P k ≡ n → ((u : ℕ) → (u ≡ k → ⊥) → P u ≡ W .P u)
-      → Rel (record { F = W .F; M = W .M; mods = W .mods; D = W .D; P = P }) env ss cap st s (mem binds (set w (12288 + k) (n * 65536 + getD w (12288 + k) 0 % 65536)) t)
+      → Rel (record { F = W .F; M = W .M; mods = W .mods; D = W .D; P = P }) env ss cap st s (mem binds (set w (12288 + k) (paramsWord n (getD w (12288 + k) 0))) t)
   rel-params long P k n hk hn e o =
       let i = r .image in
       record {

@@ -8,9 +8,9 @@ ghost use Rattle.store.specs.Sections.{mem};
 ghost use Rattle.collect.specs.Cycle.{Pre1, Done};
 ghost use Rattle.collect.specs.Declare.{moduleIs, plainMarks, PreFunction, FunctionDone, PreHere, HereDone, PreAll, AllDone, PreCompr, ComprDone, Params};
 use crate::walk;
+use answer::ScopeId;
 use store::Block;
 use store::Marks;
-use store::ScopeId;
 use store::State;
 
 fn unmarked() -> Marks

@@ -1,8 +1,8 @@
 -- The first copy that fills a slot, one record after the other; and the last of some scopes. Assumes nothing.
-use Prim.Native.Nat.{ℕ, suc, _+_, _-_, _/_, _%_, _≤_, _<_}
+use Prim.Native.Nat.{ℕ, suc, _+_, _-_, _≤_, _<_}
 use mathlib.Core.Path.{_≡_, refl, sym, ap, _∙_}
-use mathlib.Core.Bool.{Bool, true, false}
-use mathlib.Core.List.{List, [], _∷_, _++_, map, reverse, reverse-append}
+use mathlib.Core.Bool.{true, false}
+use mathlib.Core.List.{List, [], _∷_, reverse, reverse-append}
 use mathlib.Core.Option.{Option, none, some}
 use native.Mathlib.Omega.{arith}
 use native.Mathlib.Numerals.{add-one}
@@ -10,7 +10,8 @@ use lib.ListN.{length, getD, take, drop, drop-of-length-le}
 use lib.Seq.{drop-cons, take-suc, take-all, length-take-le}
 use Rattle.lexical.specs.Lists.{first, mapO}
 use Rattle.lexical.specs.Follow.{copyTo, fromIn, followBy, follow}
-use Rattle.store.specs.declared.ids.LocalSlotId.{LocalSlotId}
+use Rattle.answer.specs.Records.{copyParent}
+use Rattle.answer.specs.declared.ids.LocalSlotId.{LocalSlotId}
 use Rattle.follow.specs.declared.Place.{Place}
 use Rattle.follow.specs.declared.From.{From}
 use Rattle.follow.specs.declared.From.the-variants.{Parent, Own}
@@ -20,7 +21,7 @@ pub from-next : (cs : List ℕ) (s k c : ℕ) → c < length cs → copyTo s k (
 unfolding fromIn first
 from-next cs s k c h e = rw (add-one c, drop-cons cs c 0 h, e) refl
 
-pub from-here : (cs : List ℕ) (s k c : ℕ) → c < length cs → copyTo s k (copyOf (getD cs c 0)) ≡ true → fromIn s k (copiesOf (drop c cs)) ≡ some (getD cs c 0 / 4096 % 4096)
+pub from-here : (cs : List ℕ) (s k c : ℕ) → c < length cs → copyTo s k (copyOf (getD cs c 0)) ≡ true → fromIn s k (copiesOf (drop c cs)) ≡ some (copyParent (getD cs c 0))
 unfolding fromIn first mapO
 from-here cs s k c h e = rw (drop-cons cs c 0 h, e) refl
 

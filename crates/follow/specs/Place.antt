@@ -1,16 +1,17 @@
--- Following copies outward over an answer's copy records (document 01: a copy is scope 8, parent slot 12, child slot 12).
-use Prim.Native.Nat.{ℕ, _*_, _/_, _%_}
+-- Following copies outward over an answer's copy records.
+use Prim.Native.Nat.{ℕ}
 use mathlib.Core.List.{List, map, reverse}
 use mathlib.Core.Option.{Option, none, some}
 use Rattle.lexical.specs.State.{Copy}
 use Rattle.lexical.specs.Follow.{follow}
+use Rattle.answer.specs.Records.{copyScope, copyParent, copyChild}
 use Rattle.follow.specs.declared.Place.{Place}
 use Rattle.follow.specs.declared.From.{From}
 use Rattle.follow.specs.declared.From.the-variants.{Parent, Own}
 
 -- the copy that a record tells of; which binding it copies is not in the record
 abbrev pub copyOf : ℕ → Copy
-copyOf x = record { scope = x / 16777216; parent = x / 4096 % 4096; child = x % 4096; id = 0 }
+copyOf x = record { scope = copyScope x; parent = copyParent x; child = copyChild x; id = 0 }
 
 abbrev pub copiesOf : List ℕ → List Copy
 copiesOf xs = map copyOf xs

@@ -1,10 +1,10 @@
 // Following copies outward: from a slot of a scope to the scope and the slot that its value comes from.
 ghost use mathlib.Core.Path.{_≡_};
-ghost use Prim.Native.Nat.{_+_, _≤_, _<_};
+ghost use Prim.Native.Nat.{_+_, _<_};
 ghost use Rattle.lexical.specs.Follow.{copyTo, fromIn};
 ghost use Rattle.follow.specs.Place.{copyOf, copiesOf, fromOf, followed};
-use store::LocalSlotId;
-use store::ScopeId;
+use answer::LocalSlotId;
+use answer::ScopeId;
 
 // A slot of a scope.
 pub struct Place {
@@ -25,11 +25,11 @@ fn wide(x: u32) -> usize
 }
 
 // Whether a copy's record is of a slot of a scope.
-fn fills(r: usize, scope: usize, slot: usize) -> bool
+fn fills(r: u32, scope: usize, slot: usize) -> bool
     ensures { λ b. ⌜ b ≡ copyTo scope slot (copyOf r) ⌝ }
 {
-    if r / 16777216 == scope {
-        return r % 4096 == slot;
+    if answer::copy::scope(r) as usize == scope {
+        return answer::copy::child(r) as usize == slot;
     }
     false
 }
@@ -40,9 +40,9 @@ pub fn copied_from(copies: &[u32], scope: usize, slot: usize) -> From
 {
     let mut c = 0;
     while c < copies.len() {
-        let r = wide(copies[c]);
+        let r = copies[c];
         if fills(r, scope, slot) {
-            return From::Parent(LocalSlotId(r / 4096 % 4096));
+            return From::Parent(LocalSlotId(answer::copy::parent(r) as usize));
         }
         c += 1;
     }

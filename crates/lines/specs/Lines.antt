@@ -1,16 +1,15 @@
 -- The lines of document 01's listing ("One listing in full"): each as its pieces, in order.
--- Records are read by their widths (`scope`'s Packed): `getD row 2 0` is field 2, counted from 0.
+-- A record's fields are read by their names (`answer`'s Records).
 use Prim.Native.Nat.{ℕ}
 use mathlib.Core.Bool.{cond}
 use mathlib.Core.List.{List, [], _∷_}
 use lib.Dec.{eqb}
 use lib.ListN.{length, getD}
-use Rattle.bits.specs.Pack.{unpack}
 use Rattle.nodefile.specs.Layout.{nodesOf, namesOf, poolOf}
 use Rattle.nodefile.specs.Lists.{spelled}
 use Rattle.nodefile.specs.Listed.{kindAt, valueAt}
-use Rattle.scope.specs.declared.Answer.{Answer}
-use Rattle.scope.specs.Packed.{bindingWidths, entryWidths, pairWidths, copyWidths, nodeWidths}
+use Rattle.answer.specs.declared.Answer.{Answer}
+use Rattle.answer.specs.Records as answer
 use Rattle.text.specs.Bytes.{ascii, decimal, joined, each}
 
 -- a name, as it is printed: its bytes
@@ -45,68 +44,68 @@ sourceText fromModule node = cond (eqb fromModule 1) (ascii "-") (decimal node)
 
 -- B: binding, name, M or L, slot, public/private, once/any, captured/free, source node
 unfoldable pub bindingLine : List ℕ → ℕ → ℕ → List ℕ
-bindingLine bs i r = let row = unpack bindingWidths r in joined (
+bindingLine bs i r = joined (
     ascii "B " ∷ decimal i
-    ∷ ascii " " ∷ nameText bs (getD row 0 0)
-    ∷ choice (getD row 6 0) (ascii " L ") (ascii " M ") ∷ decimal (getD row 7 0)
-    ∷ choice (getD row 3 0) (ascii " public") (ascii " private")
-    ∷ choice (getD row 4 0) (ascii " any") (ascii " once")
-    ∷ choice (getD row 5 0) (ascii " captured ") (ascii " free ")
-    ∷ sourceText (getD row 2 0) (getD row 1 0)
+    ∷ ascii " " ∷ nameText bs (answer.bindingName r)
+    ∷ choice (answer.bindingLocal r) (ascii " L ") (ascii " M ") ∷ decimal (answer.bindingSlot r)
+    ∷ choice (answer.bindingPublic r) (ascii " public") (ascii " private")
+    ∷ choice (answer.bindingAny r) (ascii " any") (ascii " once")
+    ∷ choice (answer.bindingCaptured r) (ascii " captured ") (ascii " free ")
+    ∷ sourceText (answer.bindingEntry r) (answer.bindingSource r)
     ∷ ascii "\n" ∷ [])
 
 -- M: slot, name, visibility
 unfoldable pub entryLine : List ℕ → ℕ → List ℕ
-entryLine bs r = let row = unpack entryWidths r in joined (
-    ascii "M " ∷ decimal (getD row 2 0)
-    ∷ ascii " " ∷ nameText bs (getD row 0 0)
-    ∷ choice (getD row 1 0) (ascii " public\n") (ascii " private\n") ∷ [])
+entryLine bs r = joined (
+    ascii "M " ∷ decimal (answer.entrySlot r)
+    ∷ ascii " " ∷ nameText bs (answer.entryName r)
+    ∷ choice (answer.entryPublic r) (ascii " public\n") (ascii " private\n") ∷ [])
 
 -- a slot's name, if the slot is the scope's
 unfoldable pub slotName : List ℕ → ℕ → ℕ → List ℕ
-slotName bs s r = let row = unpack pairWidths r in
-    cond (eqb (getD row 0 0) s) (joined (ascii " " ∷ nameText bs (getD row 1 0) ∷ [])) []
+slotName bs s r =
+    cond (eqb (answer.slotScope r) s) (joined (ascii " " ∷ nameText bs (answer.slotName r) ∷ [])) []
 
 abbrev pub scopeNames : List ℕ → List ℕ → ℕ → List ℕ
 scopeNames bs slots s = rows (λ i r. slotName bs s r) slots
 
 -- S: scope, parameter variables, slot names
 unfoldable pub scopeLine : List ℕ → List ℕ → ℕ → ℕ → List ℕ
-scopeLine bs slots s r = let row = unpack pairWidths r in joined (
+scopeLine bs slots s r = joined (
     ascii "S " ∷ decimal s
-    ∷ ascii " " ∷ decimal (getD row 0 0)
+    ∷ ascii " " ∷ decimal (answer.scopeParams r)
     ∷ ascii ":" ∷ scopeNames bs slots s
     ∷ ascii "\n" ∷ [])
 
 -- C: scope, parent, child
 unfoldable pub copyLine : ℕ → List ℕ
-copyLine r = let row = unpack copyWidths r in joined (
-    ascii "C " ∷ decimal (getD row 0 0)
-    ∷ ascii " " ∷ decimal (getD row 1 0)
-    ∷ ascii " " ∷ decimal (getD row 2 0)
+copyLine r = joined (
+    ascii "C " ∷ decimal (answer.copyScope r)
+    ∷ ascii " " ∷ decimal (answer.copyParent r)
+    ∷ ascii " " ∷ decimal (answer.copyChild r)
     ∷ ascii "\n" ∷ [])
 
 -- M, L or G, slot or global, binding (`-` for a global)
 unfoldable pub resolutionText : ℕ → List ℕ
-resolutionText r = let row = unpack nodeWidths r in
-    cond (eqb (getD row 0 0) 3)
-    (joined (ascii " G " ∷ decimal (getD row 1 0) ∷ ascii " -\n" ∷ []))
+resolutionText r =
+    cond (eqb (answer.nodeClass r) 3)
+    (joined (ascii " G " ∷ decimal (answer.nodeSlot r) ∷ ascii " -\n" ∷ []))
     (joined (
-    choice (getD row 0 0) (ascii " M ") (ascii " L ") ∷ decimal (getD row 1 0)
-    ∷ ascii " " ∷ decimal (getD row 2 0)
+    choice (answer.nodeClass r) (ascii " M ") (ascii " L ") ∷ decimal (answer.nodeSlot r)
+    ∷ ascii " " ∷ decimal (answer.nodeBinding r)
     ∷ ascii "\n" ∷ []))
 
 -- I: node, outcome; a line for an Ident whose record is filled, and none for any other node
 unfoldable pub identLine : List ℕ → ℕ → ℕ → List ℕ
-identLine bs i r = let row = unpack nodeWidths r in
+identLine bs i r =
     cond (eqb (kindAt (nodesOf bs) i) 11)
-    (cond (eqb (getD row 0 0) 0) [] (joined (ascii "I " ∷ decimal i ∷ resolutionText r ∷ [])))
+    (cond (eqb (answer.nodeClass r) 0) [] (joined (ascii "I " ∷ decimal i ∷ resolutionText r ∷ [])))
     []
 
 -- E: node, code, name
 unfoldable pub errorLine : List ℕ → ℕ → List ℕ
-errorLine bs r = let row = unpack pairWidths r in joined (
-    ascii "E " ∷ decimal (getD row 0 0)
-    ∷ ascii " " ∷ decimal (getD row 1 0)
-    ∷ ascii " " ∷ nameText bs (valueAt (nodesOf bs) (getD row 0 0))
+errorLine bs r = joined (
+    ascii "E " ∷ decimal (answer.errorNode r)
+    ∷ ascii " " ∷ decimal (answer.errorCode r)
+    ∷ ascii " " ∷ nameText bs (valueAt (nodesOf bs) (answer.errorNode r))
     ∷ ascii "\n" ∷ [])

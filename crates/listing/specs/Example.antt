@@ -9,9 +9,10 @@ use Rattle.bits.specs.Pack.{pack, bytesOf}
 use Rattle.lexical.specs.Lists.{first}
 use Rattle.lexical.specs.Records.{Records}
 use Rattle.lexical.specs.Examples.{listingRecords}
-use Rattle.scope.specs.declared.Answer.{Answer}
-use Rattle.scope.specs.Buffers.{Buffers, buffers}
-use Rattle.scope.specs.Packed.{bindingOf, entryOf, pairOf, copyOf, ofNode, answerOf}
+use Rattle.answer.specs.declared.Answer.{Answer}
+use Rattle.answer.specs.Buffers.{Buffers, buffers}
+use Rattle.answer.specs.Records.{bindingOf, entryOf, pairOf, copyOf}
+use Rattle.scope.specs.Nodes.{ofNode, answerOf}
 use Rattle.text.specs.Bytes.{ascii, digits, decimal, joined}
 use Rattle.lines.specs.Lines.{nameText, refusalLine, countsLine, sourceText, bindingLine, entryLine, slotName, scopeLine, copyLine, resolutionText, identLine, errorLine}
 use Rattle.listing.specs.Text.{isScope, textOf}

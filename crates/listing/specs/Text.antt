@@ -7,8 +7,8 @@ use lib.ListN.{getD, take, replicate}
 use Rattle.base.specs.UpTo.{tally}
 use Rattle.nodefile.specs.Layout.{nodeCount, nodesOf}
 use Rattle.nodefile.specs.Listed.{kindAt}
-use Rattle.scope.specs.declared.Answer.{Answer}
-use Rattle.scope.specs.Buffers.{Buffers, buffers}
+use Rattle.answer.specs.declared.Answer.{Answer}
+use Rattle.answer.specs.Buffers.{Buffers, buffers}
 use Rattle.scope.specs.Answer.{Resolves}
 use Rattle.text.specs.Bytes.{joined, each}
 use Rattle.text.specs.Window.{Window}

@@ -2,7 +2,7 @@
 use Prim.Native.Nat.{ℕ}
 use mathlib.Core.Path.{_≡_}
 use mathlib.Core.List.{List}
-use Rattle.scope.specs.Theorems.{resolves-one}
+use Rattle.promise.specs.Theorems.{resolves-one}
 use Rattle.text.specs.Laws.{window-one}
 use Rattle.listing.specs.Text.{Listed}
 

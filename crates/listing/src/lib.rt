@@ -2,12 +2,12 @@
 mod lists;
 mod read;
 
-ghost use Rattle.scope.specs.Buffers.{buffers};
+ghost use Rattle.answer.specs.Buffers.{buffers};
 ghost use mathlib.Core.List.{[], _∷_};
 ghost use Rattle.text.specs.Window.{Window, Puts};
 ghost use Rattle.listing.specs.Text.{textOf, acceptedText, Listed};
 ghost use lib.ListN.{length};
-use scope::Answer;
+use answer::Answer;
 use text::Cursor;
 
 // What is printed of an accepted file.
@@ -77,13 +77,13 @@ pub fn print(
 pub fn listing(file: &[u8], from: usize, text: &mut [u8]) -> usize
     ensures { λ r. ⌜ Listed (now (file .entry)) from (length (now (text .entry))) (now (text .exit)) r ⌝ }
 {
-    let mut nodes = [0u32; 2048];
-    let mut bindings = [0u64; 2304];
-    let mut module = [0u32; 2304];
-    let mut scopes = [0u32; 256];
-    let mut slots = [0u32; 4096];
-    let mut copies = [0u32; 4096];
-    let mut errors = [0u32; 2048];
+    let mut nodes = [0u32; answer::NODES];
+    let mut bindings = [0u64; answer::BINDINGS];
+    let mut module = [0u32; answer::ENTRIES];
+    let mut scopes = [0u32; answer::SCOPES];
+    let mut slots = [0u32; answer::SLOTS];
+    let mut copies = [0u32; answer::COPIES];
+    let mut errors = [0u32; answer::ERRORS];
     let answer = scope::resolve(
         file,
         &mut nodes,

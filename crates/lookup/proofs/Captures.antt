@@ -10,9 +10,9 @@ use Rattle.lexical.specs.Lists.{eqb-self, eqb-not}
 use Rattle.lexical.specs.Places.{at-below}
 use Rattle.lexical.specs.Tree.{top}
 use Rattle.lexical.specs.State.{Binding, St}
+use Rattle.store.specs.Words.{capturedWord}
 use Rattle.store.specs.declared.ids.State.{State}
 use Rattle.store.specs.Sections.{mem}
-use Rattle.store.specs.Flags.{withFlag}
 use Rattle.store.specs.Image.{MadeIn}
 use Rattle.store.specs.Rel.{World, Rel}
 use Rattle.store.specs.Laws.Around.{env-top}
@@ -50,7 +50,7 @@ module _ {W : World} {env : List Binding} {ss : List ℕ} {cap : ℕ → Bool} {
 
   -- binding i is captured if x says so: `set_captured`, or no store
   pub rel-noted : (i : ℕ) (x : Bool) → x ≡ true → 2304 ≤ length binds → i < length (st .made)
-      → Rel W env ss (λ j. cap j || (eqb j i && x)) st s (mem (set binds i (withFlag 268435456 (getD binds i 0))) w t)
+      → Rel W env ss (λ j. cap j || (eqb j i && x)) st s (mem (set binds i (capturedWord (getD binds i 0))) w t)
   rel-noted i x e long h = with-made (made-captured (rel .image .made) long i _ h (λ j. rw (e, and-true (eqb j i)) refl))
 
   pub rel-unnoted : (i : ℕ) (x : Bool) → x ≡ false → Rel W env ss (λ j. cap j || (eqb j i && x)) st s (mem binds w t)
@@ -65,7 +65,7 @@ module _ {id level : ℕ} {binds t : List ℕ} (owner scope : ℕ) (e-owner : ow
   scope-is : (g : Capturing id level binds t) → scope ≡ top (g .ss)
   scope-is g = e-scope ∙ (rw (g .level-is) (env-top (g .rel .around) .0))
 
-  pub noted : (binds′ : List ℕ) → 2304 ≤ length binds → (owner ≡ scope → ⊥) → binds′ ≡ set binds id (withFlag 268435456 (getD binds id 0)) → Captured id level binds t binds′
+  pub noted : (binds′ : List ℕ) → 2304 ≤ length binds → (owner ≡ scope → ⊥) → binds′ ≡ set binds id (capturedWord (getD binds id 0)) → Captured id level binds t binds′
   noted binds′ long h e =
       record {
         right = λ g.

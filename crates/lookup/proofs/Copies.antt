@@ -1,22 +1,22 @@
 -- A local's slot in the scope outside is copied into a fresh slot: what the three stores do to the relation.
-use Prim.Native.Nat.{ℕ, _+_, _*_, _/_, _%_, _<_, _≤_}
+use Prim.Native.Nat.{ℕ, _+_, _<_, _≤_}
 use mathlib.Core.Path.{_≡_, refl, _∙_}
 use mathlib.Core.Bool.{Bool, true}
 use mathlib.Core.List.{List, [], _∷_}
 use mathlib.Core.Option.{some}
 use native.Mathlib.Omega.{arith}
 use lib.ListN.{length, getD, set, getElem?, length-append, length-set}
-use lib.Seq.{getD-set-other}
 use Rattle.lexical.specs.State.{Binding, Copy, St}
 use Rattle.lexical.specs.Block.{fresh, slotFor}
 use Rattle.lexical.specs.Third.{copyIn}
+use Rattle.answer.specs.Records.{bindingName, scopeSlots}
 use Rattle.store.specs.declared.ids.State.{State}
 use Rattle.store.specs.declared.ids.Brought.{Brought}
 use Rattle.store.specs.Sections.{Mem, mem}
-use Rattle.store.specs.Words.{pairWord}
+use Rattle.store.specs.Words.{pairWord, copiedWord, moreWord}
 use Rattle.store.specs.Rel.{World, Rel}
 use Rattle.store.specs.Laws.Made.{made-few, made-name, made-skip}
-use Rattle.store.specs.Laws.Slots.{fresh-few, fresh-read, fresh-room, slots-skip-w, slots-push}
+use Rattle.store.specs.Laws.Slots.{fresh-few, fresh-read, slots-skip-w, slots-push}
 use Rattle.store.specs.Laws.Copied.{copies-push, copies-skip, errors-skip}
 use Rattle.store.specs.Laws.Nodes.{nodes-skip}
 use Rattle.store.specs.Laws.Around.{env-skip}
@@ -26,10 +26,10 @@ use Rattle.store.specs.Laws.Full.{over-full, never-both}
 
 -- the stores
 abbrev pub copyStored : List ℕ → ℕ → ℕ → ℕ → ℕ → List ℕ
-copyStored w c scope parent child = set w (6144 + c) (scope * 16777216 + parent * 4096 + child)
+copyStored w c scope parent child = set w (6144 + c) (copiedWord scope parent child)
 
 abbrev pub slotStored : List ℕ → ℕ → ℕ → ℕ → List ℕ
-slotStored w k scope name = set (set w (2048 + k) (pairWord scope name)) (12288 + scope) (getD w (12288 + scope) 0 + 1)
+slotStored w k scope name = set (set w (2048 + k) (pairWord scope name)) (12288 + scope) (moreWord (getD w (12288 + scope) 0))
 
 abbrev pub linkStored : List ℕ → ℕ → ℕ → ℕ → List ℕ
 linkStored t k id num = set (set (set t (16640 + k) num) (12544 + k) (getD t (9728 + id) 0)) (9728 + id) (k + 1)
@@ -50,7 +50,7 @@ module _ {W : World} {env : List Binding} {ss : List ℕ} {cap : ℕ → Bool} {
       record {
         image = record {
           made = made-skip (made-skip (made-skip (i .made) _ _ (omega arith)) _ _ (omega arith)) _ _ (omega arith);
-          slots = slots-push (slots-skip-w (i .slots) (6144 + s .copies) (scope * 16777216 + parent * 4096 + fresh scope st) (omega arith) (omega arith)) (simp length-set long-w) long-t (slotFor scope (fresh scope st) b) (s .slots) (i .slots-are) room refl small n few;
+          slots = slots-push (slots-skip-w (i .slots) (6144 + s .copies) (copiedWord scope parent (fresh scope st)) (omega arith) (omega arith)) (simp length-set long-w) long-t (slotFor scope (fresh scope st) b) (s .slots) (i .slots-are) room refl small n few;
           copies = copies-skip (copies-skip (copies-push (i .copies) long-w (record { scope = scope; parent = parent; child = fresh scope st; id = b .id }) (s .copies) (i .copies-are) c) _ _ (omega arith)) _ _ (omega arith);
           errors = errors-skip (errors-skip (errors-skip (i .errors) _ _ (omega arith)) _ _ (omega arith)) _ _ (omega arith);
           nodes = nodes-skip (W .M) (st .named) (st .log) w₂ (nodes-skip (W .M) (st .named) (st .log) w₁ (nodes-skip (W .M) (st .named) (st .log) w (i .nodes) _ _ (omega arith)) _ _ (omega arith)) _ _ (omega arith);
@@ -94,8 +94,7 @@ pub record Fits (scope id : ℕ) (s : State) (w : List ℕ) : Type 0 where
   pub scope-small : scope < 256
   pub id-small : id < 2304
   pub copies-few : s .copies ≤ s .slots
-  pub child-few : getD w (12288 + scope) 0 % 65536 ≤ s .slots
-  pub room : (v : ℕ) → getD (set w (6144 + s .copies) v) (12288 + scope) 0 < 4294967295
+  pub child-few : scopeSlots (getD w (12288 + scope) 0) ≤ s .slots
 
 -- the state after it
 abbrev pub onward : State → State
@@ -110,7 +109,6 @@ module _ {scope parent id : ℕ} {s : State} {binds w t : List ℕ} where
         id-small = omega (arith, g .number, made-few (i .made) (g .b .id) (g .b) (g .stands));
         copies-few = omega (arith, i .copies-fit, i .copies-are, i .slots-are);
         child-few = omega (arith, fresh-read (i .slots) scope (g .scope-small), fresh-few scope (g .st .slots), i .slots-are);
-        room = λ v. rw (getD-set-other w (6144 + s .copies) (12288 + scope) v 0 (omega (arith, i .copies-fit, i .copies-are, i .slots-are))) (fresh-room (i .slots) scope (g .scope-small));
       }
 
   -- there is no room
@@ -124,7 +122,7 @@ module _ {scope parent id : ℕ} {s : State} {binds w t : List ℕ} where
         };
       }
 
-  pub copy-done : length w ≡ 12544 → length t ≡ 20864 → (child name : ℕ) (w₁ w₂ t₁ : List ℕ) → s .slots < 4096 → child ≡ getD w (12288 + scope) 0 % 65536 → name ≡ getD binds id 0 / 281474976710656
+  pub copy-done : length w ≡ 12544 → length t ≡ 20864 → (child name : ℕ) (w₁ w₂ t₁ : List ℕ) → s .slots < 4096 → child ≡ scopeSlots (getD w (12288 + scope) 0) → name ≡ bindingName (getD binds id 0)
       → w₁ ≡ copyStored w (s .copies) scope parent child → w₂ ≡ slotStored w₁ (s .slots) scope name → t₁ ≡ linkStored t (s .slots) id child
       → Copied scope parent id s (mem binds w t) (record { st = onward s; slot = record { 0 = child } }) (mem binds w₂ t₁)
   unfolding copyIn

@@ -1,5 +1,5 @@
 -- The steps of `bring`: what it hands to the functions that it calls, and what it makes of what they ensure.
-use Prim.Native.Nat.{ℕ, _+_, _-_, _/_, _%_, _<_}
+use Prim.Native.Nat.{ℕ, _+_, _-_, _<_}
 use mathlib.Core.Path.{_≡_, refl, sym, ap, _∙_}
 use mathlib.Core.Bool.{true, false}
 use mathlib.Core.List.{List}
@@ -8,6 +8,7 @@ use native.Mathlib.Omega.{arith}
 use lib.ListN.{getD}
 use Rattle.lexical.specs.Third.{handIn, copyIn, bring}
 use Rattle.lexical.specs.Proof.Same.{bring-made}
+use Rattle.answer.specs.Records.{bindingSlot}
 use Rattle.store.specs.declared.ids.State.{State}
 use Rattle.store.specs.declared.ids.Brought.{Brought}
 use Rattle.store.specs.declared.ids.Hand.{Hand}
@@ -58,7 +59,7 @@ module _ {level id : ℕ} {s : State} {binds w t : List ℕ} (scope : ℕ) (e-sc
           ap (λ (l : List ℕ). bring l (g .b) (g .st)) (i .is) ∙ bring-copied scope (i .outer) (g .b) (g .st) (rw (← g .number) q)
 
       -- at the outermost scope, from the binding's own slot
-      module _ (z : level ≡ 0) (own : ℕ) (e-own : own ≡ getD binds id 0 / 4096 % 32768) where
+      module _ (z : level ≡ 0) (own : ℕ) (e-own : own ≡ bindingSlot (getD binds id 0)) where
         own-slot : (g : Bringing level id s (mem binds w t)) → own ≡ g .b .slot
         own-slot g = e-own ∙ (rw (g .number) (made-slot (g .rel .image .made) (g .b .id) (g .b) (g .stands)))
 

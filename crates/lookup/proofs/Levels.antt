@@ -8,7 +8,7 @@ use lib.ListN.{length, getD, getElem?}
 use Rattle.lexical.specs.Lists.{first, mapO, none-some, Tested, was, wasnt, tested}
 use Rattle.lexical.specs.State.{Binding, Slot, St}
 use Rattle.lexical.specs.Third.{holds, handIn, hand, copyIn, bringTo, bring}
-use Rattle.store.specs.declared.ids.LocalSlotId.{LocalSlotId}
+use Rattle.answer.specs.declared.ids.LocalSlotId.{LocalSlotId}
 use Rattle.store.specs.declared.ids.Hand.the-variants.{At, Nothing}
 use Rattle.store.specs.Hands.{handOf}
 use Rattle.store.specs.Meanings.{Stacked}

@@ -14,7 +14,7 @@ use Rattle.lexical.specs.Code.Adds.{FoundBelow}
 use Rattle.lexical.specs.Proof.Same.{bring-made}
 use Rattle.store.specs.declared.ids.State.{State}
 use Rattle.store.specs.declared.ids.Brought.{Brought}
-use Rattle.store.specs.declared.ids.BindingId.{BindingId}
+use Rattle.answer.specs.declared.ids.BindingId.{BindingId}
 use Rattle.store.specs.declared.ids.Resolution.the-variants as res
 use Rattle.store.specs.declared.ids.Slot.the-variants as slot
 use Rattle.store.specs.Sections.{Mem, mem}

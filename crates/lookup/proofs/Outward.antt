@@ -1,5 +1,5 @@
 -- A name that no local has: the module's binding, a global, or nothing.
-use Prim.Native.Nat.{ℕ, _+_, _/_, _%_, _<_, _≤_}
+use Prim.Native.Nat.{ℕ, _+_, _<_, _≤_}
 use mathlib.Core.Path.{_≡_, refl, ap₂, _∙_}
 use mathlib.Core.Bool.{true, false, _&&_, _||_}
 use mathlib.Core.List.{List, [], _∷_}
@@ -12,12 +12,13 @@ use Rattle.lexical.specs.Places.{at-below}
 use Rattle.lexical.specs.State.{Binding}
 use Rattle.lexical.specs.Records.{inFunction, capturesFound, capturesOuter, slotOf}
 use Rattle.lexical.specs.Code.Adds.{FoundBelow, OuterBelow}
+use Rattle.answer.specs.Records.{bindingSlot}
+use Rattle.store.specs.Words.{capturedWord}
 use Rattle.store.specs.declared.ids.State.{State}
-use Rattle.store.specs.declared.ids.BindingId.{BindingId}
+use Rattle.answer.specs.declared.ids.BindingId.{BindingId}
 use Rattle.store.specs.declared.ids.Resolution.the-variants as res
 use Rattle.store.specs.declared.ids.Slot.the-variants as slot
 use Rattle.store.specs.Sections.{mem}
-use Rattle.store.specs.Flags.{withFlag}
 use Rattle.store.specs.Rel.{Rel, caps}
 use Rattle.store.specs.Laws.Points.{absent-past}
 use Rattle.store.specs.Laws.Made.{made-few, made-slot}
@@ -56,7 +57,7 @@ module _ {i : ℕ} {s : State} {binds : List ℕ} where
   pub module-few : InModule i s binds → i < 2304
   module-few g = let x = bound g in made-few (g .rel .image .made) i (x .b) (x .stands)
 
-  module _ (k : ℕ) (e-slot : k ≡ getD binds i 0 / 4096 % 32768) (id : BindingId) (e-id : id .0 ≡ i) where
+  module _ (k : ℕ) (e-slot : k ≡ bindingSlot (getD binds i 0)) (id : BindingId) (e-id : id .0 ≡ i) where
     module-slot : (g : InModule i s binds) → k ≡ slotOf (getElem? (g .W .M) i)
     unfolding slotOf
     module-slot g = let x = bound g in rw (x .listed) (e-slot ∙ made-slot (g .rel .image .made) i (x .b) (x .stands))
@@ -77,7 +78,7 @@ module _ {i : ℕ} {s : State} {binds : List ℕ} where
     pub module-outside : s .level ≡ 0 → ModuleDone i s binds (record { st = s; res = res.Slot (slot.Module (record { 0 = k })) id }) binds
     module-outside z = module-found binds (λ g. rel-unnoted (g .rel) i _ (outermost (s .level) (g .ss) (g .rel .around .level-is) z))
 
-    pub module-inside : (s .level ≡ 0 → ⊥) → 2304 ≤ length binds → (binds′ : List ℕ) → binds′ ≡ set binds i (withFlag 268435456 (getD binds i 0))
+    pub module-inside : (s .level ≡ 0 → ⊥) → 2304 ≤ length binds → (binds′ : List ℕ) → binds′ ≡ set binds i (capturedWord (getD binds i 0))
         → ModuleDone i s binds (record { st = s; res = res.Slot (slot.Module (record { 0 = k })) id }) binds′
     module-inside z long binds′ e =
         module-found binds′ (λ g. let x = bound g in rw e (rel-noted (g .rel) i _ (further-in (s .level) (g .ss) (g .rel .around .level-is) z) long (at-below (g .st .made) i (x .b) (x .stands))))

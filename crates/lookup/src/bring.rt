@@ -3,11 +3,11 @@ ghost use mathlib.Core.Path.{_≡_};
 ghost use mathlib.Core.Bool.{true};
 ghost use Rattle.store.specs.Sections.{mem, Long};
 ghost use Rattle.lookup.specs.Bring.{Copying, Copied, Bringing, Brings};
-use store::BindingId;
+use answer::BindingId;
+use answer::LocalSlotId;
+use answer::ScopeId;
 use store::Brought;
 use store::Hand;
-use store::LocalSlotId;
-use store::ScopeId;
 use store::State;
 
 // There is no room for a slot.

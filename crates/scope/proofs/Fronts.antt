@@ -8,7 +8,7 @@ use lib.ListN.{length, getD, length-map}
 use Rattle.store.specs.Sections.{Point, wordAt}
 use Rattle.store.specs.Laws.Points.{Zeros}
 use Rattle.target.specs.Alike.{map-like}
-use Rattle.scope.specs.Buffers.{Front}
+use Rattle.answer.specs.Buffers.{Front}
 use Rattle.scope.specs.Filled.{Filled}
 use Rattle.scope.specs.Laws.Front.{get-past, front-is, word-get}
 

@@ -18,7 +18,7 @@ use Rattle.lexical.specs.Records as rec
 use Rattle.lexical.specs.Claims.{Scoped}
 use Rattle.lexical.specs.Code.Numbers.{made-start}
 use Rattle.store.specs.Image.{RowOf, name-row, ident-row, HeldAt, held, none-held}
-use Rattle.scope.specs.Packed.{nodeAnswer}
+use Rattle.scope.specs.Nodes.{nodeAnswer}
 use Rattle.scope.specs.Laws.Words.{answer-word}
 use Rattle.scope.specs.Laws.Early.{found-early}
 use Rattle.scope.specs.Laws.Rows.{rowsOf, answer-at, answer-none}

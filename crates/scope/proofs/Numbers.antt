@@ -11,9 +11,10 @@ use Rattle.lexical.specs.Module.{File}
 use Rattle.lexical.specs.Records.{records}
 use Rattle.store.specs.Laws.Points.{Zeros, zeros}
 use Rattle.judge.specs.Cond.{Judged}
-use Rattle.scope.specs.declared.Answer.{Answer}
-use Rattle.scope.specs.Buffers.{Buffers, Short, short-nodes, short-bindings, short-entries, short-scopes, short-slots, short-copies, short-errors, Front, Zeroed}
-use Rattle.scope.specs.Packed.{bindingOf, entryOf, pairOf, copyOf, nodeAnswer}
+use Rattle.answer.specs.declared.Answer.{Answer}
+use Rattle.answer.specs.Buffers.{Buffers, Short, short-nodes, short-bindings, short-entries, short-scopes, short-slots, short-copies, short-errors, Front, Zeroed}
+use Rattle.answer.specs.Records.{bindingOf, entryOf, pairOf, copyOf}
+use Rattle.scope.specs.Nodes.{nodeAnswer}
 use Rattle.scope.specs.Answer.{ManySlots, many-slots, Cond, refusal, Refused, Given, Resolves}
 use Rattle.scope.specs.Accepted.{PreAccepted, Accepting, many, few}
 use Rattle.scope.specs.Laws.Conditions.{smallest-short, smallest-judged, smallest-many, smallest-none}

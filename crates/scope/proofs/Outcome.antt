@@ -18,10 +18,10 @@ use Rattle.nodefile.specs.FileOf.{fileOf}
 use Rattle.store.specs.Sections.{mem}
 use Rattle.store.specs.Rel.{Over, many-slots, many-bindings, many-errors}
 use Rattle.store.specs.Laws.Points.{Zeros, zeros}
-use Rattle.scope.specs.declared.Answer.{Answer}
+use Rattle.answer.specs.declared.Answer.{Answer}
 use Rattle.scope.specs.declared.Walked.{Walked}
-use Rattle.scope.specs.Buffers.{Buffers, buffers}
-use Rattle.scope.specs.Packed.{entryFrom}
+use Rattle.answer.specs.Buffers.{Buffers, buffers}
+use Rattle.answer.specs.Records.{entryFrom}
 use Rattle.scope.specs.Filled.{Filled, filled-end}
 use Rattle.scope.specs.Copied.{PreCopy, Copied}
 use Rattle.scope.specs.Ready.{Ready}

@@ -1,5 +1,5 @@
 -- The seven buffers of a file that is resolved, from the working lists at the end of the walks.
-use Prim.Native.Nat.{ℕ, suc, _+_, _*_, _<_, _≤_}
+use Prim.Native.Nat.{ℕ, suc, _+_, _<_, _≤_}
 use mathlib.Core.Path.{_≡_, sym, ap, _∙_, subst}
 use mathlib.Core.Logic.{inl, inr}
 use mathlib.Core.List.{List, [], _∷_, map}
@@ -25,19 +25,20 @@ use Rattle.nodefile.specs.Layout.{nodeCount}
 use Rattle.nodefile.specs.FileOf.{fileOf}
 use Rattle.store.specs.declared.ids.State.{State}
 use Rattle.store.specs.Sections.{Mem, wordAt}
-use Rattle.store.specs.Words.{bindWord, slotWord, copyWord, errorWord}
+use Rattle.store.specs.Words.{bindWord, slotWord, copyWord, errorWord, pairWord}
 use Rattle.store.specs.Image.{Image}
 use Rattle.store.specs.Rel.{caps}
 use Rattle.store.specs.Laws.Points.{Zeros, word-at}
 use Rattle.target.specs.Alike.{map-like}
 use Rattle.collect.specs.Declare.{counted}
-use Rattle.scope.specs.Buffers.{Front}
-use Rattle.scope.specs.Packed.{bindingOf, entryOf, entryFrom, pairOf, copyOf, nodeAnswer}
+use Rattle.answer.specs.Buffers.{Front}
+use Rattle.answer.specs.Records.{bindingOf, entryOf, entryFrom, pairOf, copyOf}
+use Rattle.scope.specs.Nodes.{nodeAnswer}
 use Rattle.scope.specs.Filled.{Filled}
 use Rattle.scope.specs.Ready.{Ready}
 use Rattle.scope.specs.Walks.{paramsAt}
 use Rattle.scope.specs.Laws.Front.{get-past, front-is, word-get}
-use Rattle.scope.specs.Laws.Words.{binding-word, slot-word, copy-word, scope-word, error-word, entry-word}
+use Rattle.scope.specs.Laws.Words.{binding-word, slot-word, copy-word, error-word, entry-word}
 use Rattle.scope.specs.Laws.Readies.{ready-scoped, ready-headed, ready-distinct}
 use Rattle.scope.specs.Laws.Within.{no-scope}
 use Rattle.scope.proofs.Held.{held-answer}
@@ -91,11 +92,11 @@ module _ {bs : List ℕ} {root : Forest} (q : Ready bs root) {s : State} {m : Me
       other j h (inl e) = omega arith
       other j h (inr n) = omega (arith, q .once .high j n)
 
-      at : (j : ℕ) → Dec (j < length rows) → paramsAt root j * 65536 + freshIn j (resolved F .slots) ≡ getD (map pairOf rows) j 0
+      at : (j : ℕ) → Dec (j < length rows) → pairWord (paramsAt root j) (freshIn j (resolved F .slots)) ≡ getD (map pairOf rows) j 0
       at j (yes h) =
           let e : 0 + j ≡ j = zero-add j in
           let row : getElem? rows j ≡ some (paramsAt root j ∷ freshIn j (resolved F .slots) ∷ []) = rw e at (scopeRows-at 0 ((0, 0) ∷ paramsIn root) (paramsIn root) (resolved F .slots) j (omega (arith, scopeRows-length 0 ((0, 0) ∷ paramsIn root) (paramsIn root) (resolved F .slots)))) in
-          scope-word (paramsAt root j) (freshIn j (resolved F .slots)) ∙ sym (word-at pairOf rows j _ row) ∙ word-get pairOf rows j
+          sym (word-at pairOf rows j _ row) ∙ word-get pairOf rows j
       at j (no h) =
           let a : length (scopesIn root) < j = omega (arith, scopes-length F (resolved F .slots)) in
           let b : paramsAt root j ≡ 0 = no-params root j (λ n. other j a (inr n)) in

@@ -9,8 +9,8 @@ use Rattle.nodefile.specs.Layout.{nodeCount, nodesOf}
 use Rattle.nodefile.specs.Reads.{Reads}
 use Rattle.nodefile.specs.FileOf.{fileOf}
 use Rattle.store.specs.Laws.Points.{Zeros}
-use Rattle.scope.specs.declared.Answer.{Answer}
-use Rattle.scope.specs.Buffers.{Buffers}
+use Rattle.answer.specs.declared.Answer.{Answer}
+use Rattle.answer.specs.Buffers.{Buffers}
 use Rattle.scope.specs.Ready.{Ready}
 use Rattle.scope.specs.Answer.{ManySlots, Refused, Given}
 

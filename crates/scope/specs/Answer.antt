@@ -13,9 +13,10 @@ use Rattle.nodefile.specs.Layout.{nodeCount, nodesOf}
 use Rattle.nodefile.specs.Reads.{Reads}
 use Rattle.nodefile.specs.FileOf.{fileOf}
 use Rattle.judge.specs.Cond as judging
-use Rattle.scope.specs.declared.Answer.{Answer}
-use Rattle.scope.specs.Buffers.{Buffers, Short, Front, Zeroed}
-use Rattle.scope.specs.Packed.{bindingOf, entryOf, pairOf, copyOf, nodeAnswer}
+use Rattle.answer.specs.declared.Answer.{Answer}
+use Rattle.answer.specs.Buffers.{Buffers, Short, Front, Zeroed}
+use Rattle.answer.specs.Records.{bindingOf, entryOf, pairOf, copyOf}
+use Rattle.scope.specs.Nodes.{nodeAnswer}
 
 -- number 12: all scopes together would need more than 4,096 slots
 pub data ManySlots (bs : List ℕ) : Type 0 where

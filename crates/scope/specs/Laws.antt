@@ -1,4 +1,4 @@
--- What the proofs, and whoever reads the buffers, use of these definitions.
+-- What the proofs, and `promise`, use of these definitions.
 pub mod Lists
 pub mod Front
 pub mod Words
@@ -7,19 +7,7 @@ pub mod Readies
 pub mod Accepts
 pub mod Within
 pub mod Conditions
-pub mod Sites
 pub mod Early
 pub mod Targets
 pub mod Fitting
 pub mod Bounds
-pub mod Events
-pub mod Reading
-pub mod Copies
-pub mod Zero
-pub mod One
-pub mod Narrow
-pub mod Records
-pub mod Told
-pub mod Named
-pub mod Captured
-pub mod Least

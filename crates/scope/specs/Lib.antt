@@ -1,11 +1,8 @@
-pub mod Buffers
-pub mod Packed
+pub mod Nodes
 pub mod Filled
 pub mod Copied
 pub mod Ready
 pub mod Walks
 pub mod Answer
 pub mod Accepted
-pub mod Shown
 pub mod Laws
-pub mod Theorems

@@ -3,7 +3,7 @@
 // the three walks go over its nodes (`collect`, `idents`), and what they left in the working lists is copied out (`out`).
 mod out;
 
-ghost use Rattle.scope.specs.Buffers.{buffers, ShortOf, Zeroed};
+ghost use Rattle.answer.specs.Buffers.{buffers, ShortOf, Zeroed};
 ghost use Rattle.base.specs.Says.{Says};
 ghost use Rattle.scope.specs.Answer.{Resolves, refusal};
 ghost use mathlib.Core.Path.{_≡_};
@@ -11,18 +11,8 @@ ghost use Rattle.store.specs.Sections.{mem};
 ghost use Rattle.scope.specs.Accepted.{PreAccepted, Accepting};
 ghost use Rattle.scope.specs.Walks.{PreNodes, NodesDone, PreWalk, WalkDone};
 ghost use Rattle.scope.specs.Copied.{PreCopy, Copied};
+use answer::Answer;
 use store::State;
-
-// Document 01's number, and the counts.
-#[repr(C)]
-pub struct Answer {
-    pub number: u64,
-    pub bindings: usize,
-    pub module: usize,
-    pub slots: usize,
-    pub copies: usize,
-    pub errors: usize,
-}
 
 // The walks' end: the state, and the number of module bindings.
 struct Walked {
@@ -115,25 +105,25 @@ fn short(
 ) -> bool
     ensures { λ r. ⌜ Says r (ShortOf nodes bindings «module» scopes slots copies errors) ⌝ }
 {
-    if nodes < 2048 {
+    if nodes < answer::NODES {
         return true;
     }
-    if bindings < 2304 {
+    if bindings < answer::BINDINGS {
         return true;
     }
-    if module < 2304 {
+    if module < answer::ENTRIES {
         return true;
     }
-    if scopes < 256 {
+    if scopes < answer::SCOPES {
         return true;
     }
-    if slots < 4096 {
+    if slots < answer::SLOTS {
         return true;
     }
-    if copies < 4096 {
+    if copies < answer::COPIES {
         return true;
     }
-    if errors < 2048 {
+    if errors < answer::ERRORS {
         return true;
     }
     false
@@ -154,7 +144,7 @@ fn copy_out(
     ensures { λ _. ⌜ Copied (now (w .entry)) n st (now (nodes .entry)) (now (scopes .entry)) (now (slots .entry)) (now (copies .entry)) (now (errors .entry)) (now (nodes .exit)) (now (scopes .exit)) (now (slots .exit)) (now (copies .exit)) (now (errors .exit)) ⌝ }
 {
     out::copy_front(w, 0, n, nodes);
-    out::copy_front(w, 12288, 256, scopes);
+    out::copy_front(w, 12288, answer::SCOPES, scopes);
     out::copy_front(w, 2048, st.slots, slots);
     out::copy_front(w, 6144, st.copies, copies);
     out::copy_front(w, 10240, st.errors, errors);
@@ -175,7 +165,7 @@ fn resolve_accepted(
     ensures { λ r. ⌜ Accepting (now (file .entry)) (buffers (now (nodes .entry)) (now (bindings .entry)) (now («module» .entry)) (now (scopes .entry)) (now (slots .entry)) (now (copies .entry)) (now (errors .entry))) r (buffers (now (nodes .exit)) (now (bindings .exit)) (now («module» .exit)) (now (scopes .exit)) (now (slots .exit)) (now (copies .exit)) (now (errors .exit))) ⌝ }
 {
     let mut w = [0u32; 12544];
-    let r = walk(file, &mut bindings[0..2304], &mut w);
+    let r = walk(file, &mut bindings[0..answer::BINDINGS], &mut w);
     let st = r.st;
     let m = r.module;
     if st.full {

@@ -3,7 +3,7 @@ ghost use mathlib.Core.Path.{_≡_};
 ghost use Prim.Native.Nat.{_+_, _≤_};
 ghost use lib.ListN.{length, getD, replicate};
 ghost use Rattle.scope.specs.Filled.{Filled};
-ghost use Rattle.scope.specs.Packed.{entryFrom};
+ghost use Rattle.answer.specs.Records.{entryFrom};
 
 pub fn clear32(to: &mut [u32])
     ensures { λ _. ⌜ now (to .exit) ≡ replicate (length (now (to .entry))) 0 ⌝ }
@@ -37,14 +37,15 @@ pub fn copy_front(w: &[u32], off: usize, n: usize, to: &mut [u32])
     }
 }
 
-// A binding's module entry: name 16, public 1, slot 15.
+// A binding's module entry.
 fn entry_word(r: u64) -> u32
     ensures { λ e. ⌜ e ≡ entryFrom r ⌝ }
 {
-    let name = r / 281474976710656;
-    let public = r / 1073741824 % 2;
-    let slot = r / 4096 % 32768;
-    (name * 65536 + public * 32768 + slot) as u32
+    answer::entry::make(
+        answer::binding::name(r),
+        answer::binding::public(r),
+        answer::binding::slot(r),
+    )
 }
 
 // The module's entries afterwards, one for each of the first n bindings.

@@ -15,14 +15,14 @@ fn say_number(n: u64) {
 fn name_line(node: usize, record: u32) {
     say(b"N ");
     say_number(node as u64);
-    if record / 1073741824 == 1 {
+    if answer::node::class(record) == answer::node::MODULE {
         say(b" M ");
     } else {
         say(b" L ");
     }
-    say_number((record / 32768 % 32768) as u64);
+    say_number(answer::node::slot(record));
     say(b" ");
-    say_number((record % 32768) as u64);
+    say_number(answer::node::binding(record));
     say(b"\n");
 }
 
@@ -47,12 +47,12 @@ fn name_lines(list: &[u8], records: &[u32]) {
 
 fn slot_line(file: &[u8], record: u32) {
     say(b"T ");
-    say_number((record / 65536) as u64);
+    say_number(answer::slot::scope(record));
     say(b" ");
     say(nodefile::spelled(
         nodefile::names(file),
         nodefile::pool(file),
-        (record % 65536) as usize,
+        answer::slot::name(record) as usize,
     ));
     say(b"\n");
 }
@@ -70,13 +70,13 @@ fn slot_lines(file: &[u8], count: usize, records: &[u32]) {
 
 // The listing, then the lines for Names and slots.
 fn list(file: &[u8]) {
-    let mut nodes = [0u32; 2048];
-    let mut bindings = [0u64; 2304];
-    let mut module = [0u32; 2304];
-    let mut scopes = [0u32; 256];
-    let mut slots = [0u32; 4096];
-    let mut copies = [0u32; 4096];
-    let mut errors = [0u32; 2048];
+    let mut nodes = [0u32; answer::NODES];
+    let mut bindings = [0u64; answer::BINDINGS];
+    let mut module = [0u32; answer::ENTRIES];
+    let mut scopes = [0u32; answer::SCOPES];
+    let mut slots = [0u32; answer::SLOTS];
+    let mut copies = [0u32; answer::COPIES];
+    let mut errors = [0u32; answer::ERRORS];
     let a = scope::resolve(
         file,
         &mut nodes,

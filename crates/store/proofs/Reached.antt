@@ -1,5 +1,5 @@
 -- The loops of `scope_in` and `unscope`: of the bindings from lo on, those from k on are in reach.
-use Prim.Native.Nat.{ℕ, zero, suc, _+_, _-_, _/_, _<_, _≤_}
+use Prim.Native.Nat.{ℕ, zero, suc, _+_, _-_, _<_, _≤_}
 use mathlib.Core.Path.{_≡_, refl, sym, ap, _∙_}
 use mathlib.Core.Logic.{_⊎_, inl, inr, ⊎-elim}
 use mathlib.Core.List.{List, [], _∷_, _++_}
@@ -8,6 +8,7 @@ use native.Mathlib.Omega.{arith}
 use lib.ListN.{length, getD, set, drop, getElem?, drop-of-length-le}
 use Rattle.lexical.specs.Lists.{none-some, Opened, absent, present, opened}
 use Rattle.lexical.specs.State.{Binding}
+use Rattle.answer.specs.Records.{bindingName}
 use Rattle.store.specs.Sections.{mem}
 use Rattle.store.specs.Meanings.{SavedAll}
 use Rattle.store.specs.Rel.{Rel}
@@ -57,7 +58,7 @@ module _ {binds t₀ : List ℕ} {lo hi : ℕ} (g : Opening binds t₀ lo hi) wh
   stands : (j : ℕ) (b : Binding) → getElem? (g .bs) j ≡ some b → (b .id ≡ lo + j) × (getElem? (g .st .made) (b .id) ≡ some b)
   stands j b e = let q = g .range .are j b e in let i = g .rel .image .made .sound (lo + j) b q .id in (i, ap (getElem? (g .st .made)) i ∙ q)
 
-  pub opens-next : (k name : ℕ) (t : List ℕ) → lo < k → k ≤ hi → name ≡ getD binds (k - 1) 0 / 281474976710656 → Next k name t
+  pub opens-next : (k name : ℕ) (t : List ℕ) → lo < k → k ≤ hi → name ≡ bindingName (getD binds (k - 1) 0) → Next k name t
   opens-next k name t l h n = go (opened (getElem? (g .bs) (k - 1 - lo)))
     where
       go : Opened (getElem? (g .bs) (k - 1 - lo)) → Next k name t
@@ -101,8 +102,8 @@ module _ {binds t₀ : List ℕ} {lo hi : ℕ} (g : Closing binds t₀ lo hi) wh
 
   pub record After (k name : ℕ) (t : List ℕ) : Type 0 where
     pub few : k < 2304
-    pub small : name ≡ getD binds k 0 / 281474976710656 → name < 1024
-    pub closes : length t ≡ 20864 → name ≡ getD binds k 0 / 281474976710656 → Closes (k + 1) (set t name (getD t (5120 + k) 0))
+    pub small : name ≡ bindingName (getD binds k 0) → name < 1024
+    pub closes : length t ≡ 20864 → name ≡ bindingName (getD binds k 0) → Closes (k + 1) (set t name (getD t (5120 + k) 0))
 
   pub closes-next : (k name : ℕ) (t : List ℕ) → lo ≤ k → k < hi → Closes k t → After k name t
   unfolding SavedAll
@@ -126,7 +127,7 @@ module _ {binds t₀ : List ℕ} {lo hi : ℕ} (g : Closing binds t₀ lo hi) wh
           st : getElem? (g .st .made) (b .id) ≡ some b
           st = r′ .around .saved .0 .stands
 
-          m : name ≡ getD binds k 0 / 281474976710656 → name ≡ b .var .name
+          m : name ≡ bindingName (getD binds k 0) → name ≡ b .var .name
           m n = n ∙ (rw (← i) (made-name (r .image .made) (b .id) b st))
 
   pub closes-end : (k : ℕ) (t : List ℕ) → hi ≤ k → Closes k t → Rel (g .W) (g .env) (g .ss) (g .cap) (g .st) (g .s) (mem binds (g .w) t)

@@ -1,5 +1,5 @@
 -- The loop of `hand`: back along the chain of a binding's slots, keeping the last slot found, which is the first in order.
-use Prim.Native.Nat.{ℕ, zero, suc, _+_, _-_, _/_, _<_, _≤_}
+use Prim.Native.Nat.{ℕ, zero, suc, _+_, _-_, _<_, _≤_}
 use mathlib.Core.Path.{_≡_, refl, sym, ap, ap₂, _∙_}
 use mathlib.Core.Bool.{cond}
 use mathlib.Core.List.{List, [], _∷_, _++_}
@@ -13,6 +13,7 @@ use Rattle.lexical.specs.Places.{at-below}
 use Rattle.lexical.specs.State.{Slot}
 use Rattle.lexical.specs.Third.{holds, handIn}
 use Rattle.lexical.specs.Proof.Slots.{hand-snoc}
+use Rattle.answer.specs.Records.{slotScope}
 use Rattle.store.specs.Sections.{orZero}
 use Rattle.store.specs.Words.{slotWord}
 use Rattle.store.specs.Image.{lastOf, before, SlotsIn}
@@ -48,8 +49,8 @@ pub record Led (rs : List Slot) (s i c best : ℕ) : Type 0 where
 
 -- what `found` gives at slot record j
 pub record Seen (w t : List ℕ) (s j best x : ℕ) : Type 0 where
-  pub here : getD w (2048 + j) 0 / 65536 ≡ s → x ≡ getD t (16640 + j) 0 + 1
-  pub other : (getD w (2048 + j) 0 / 65536 ≡ s → ⊥) → x ≡ best
+  pub here : slotScope (getD w (2048 + j) 0) ≡ s → x ≡ getD t (16640 + j) 0 + 1
+  pub other : (slotScope (getD w (2048 + j) 0) ≡ s → ⊥) → x ≡ best
 
 pub led-end : {rs : List Slot} {s i c best : ℕ} → c ≤ 0 → Led rs s i c best → handIn s i rs ≡ bestOf best
 unfolding handIn first mapO orElse
@@ -70,7 +71,7 @@ module _ {rs : List Slot} {P : ℕ → ℕ} {w t : List ℕ} (m : SlotsIn rs P w
   unfolding holds orElse slotWord
   found-is j best x r e q f =
       let h : j < 4096 = omega (arith, m .few, at-below rs j r e) in
-      let a : getD w (2048 + j) 0 / 65536 ≡ r .scope = omega (arith, m .rows j h, word-at slotWord rs j r e, m .sound j r e .2) in
+      let a : slotScope (getD w (2048 + j) 0) ≡ r .scope = omega (arith, m .rows j h, word-at slotWord rs j r e, m .sound j r e .0, m .sound j r e .2) in
       elim (ℕ-discrete (r .scope) s) [
         | yes z ↦ let y : x ≡ suc (r .num) = omega (arith, f .here (a ∙ z), m .nums j h, word-at (λ (r : Slot). r .num) rs j r e) in rw (y, z, q, eqb-self s, eqb-self i) refl
         | no z ↦ let y : x ≡ best = f .other (λ u. z (sym a ∙ u)) in rw (y, eqb-not (r .scope) s z) refl

@@ -1,5 +1,5 @@
 -- How the state of `lexical`'s walks stands in the working lists: each of its lists in a section, in order, then zeros.
-use Prim.Native.Nat.{ℕ, zero, suc, _+_, _*_, _<_, _≤_}
+use Prim.Native.Nat.{ℕ, zero, suc, _+_, _<_, _≤_}
 use mathlib.Core.Path.{_≡_}
 use mathlib.Core.Bool.{Bool, true, false, cond}
 use mathlib.Core.Logic.{_⊎_}
@@ -13,7 +13,7 @@ use Rattle.lexical.specs.Records as rec
 use Rattle.lexical.specs.Code.Adds.{AllBelow}
 use Rattle.store.specs.declared.ids.State.{State}
 use Rattle.store.specs.Sections.{Mem, Point, wordAt, orZero, slotsAt, copiesAt, errorsAt, scopesAt, ownerAt, tailAt, backAt, numAt}
-use Rattle.store.specs.Words.{rowNode, rowWord, bindWord, slotWord, errorWord, copyWord}
+use Rattle.store.specs.Words.{rowNode, rowWord, bindWord, slotWord, errorWord, copyWord, pairWord}
 
 -- ---- bindings
 
@@ -50,7 +50,7 @@ before rs k = orZero (λ (r : Slot). lastOf (r .id) (take k rs)) (getElem? rs k)
 -- P: each scope's parameter variables
 pub record SlotsIn (rs : List Slot) (P : ℕ → ℕ) (w t : List ℕ) : Type 0 where
   pub rows : Point w slotsAt 4096 (wordAt slotWord rs)
-  pub scopes : Point w scopesAt 256 (λ s. P s * 65536 + freshIn s rs)
+  pub scopes : Point w scopesAt 256 (λ s. pairWord (P s) (freshIn s rs))
   pub nums : Point t numAt 4096 (wordAt (λ (r : Slot). r .num) rs)
   pub back : Point t backAt 4096 (before rs)
   pub tail : Point t tailAt 2304 (λ i. lastOf i rs)

@@ -1,6 +1,5 @@
 pub mod Sections
 pub mod Words
-pub mod Flags
 pub mod Hands
 pub mod Scoping
 pub mod Image

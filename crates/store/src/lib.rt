@@ -6,16 +6,12 @@ mod records;
 mod slots;
 mod wide;
 
-pub use ids::BindingId;
 pub use ids::Block;
 pub use ids::Brought;
 pub use ids::Hand;
-pub use ids::LocalSlotId;
 pub use ids::Marks;
-pub use ids::ModuleSlotId;
 pub use ids::Resolution;
 pub use ids::Resolved;
-pub use ids::ScopeId;
 pub use ids::Slot;
 pub use ids::State;
 pub use meanings::current;

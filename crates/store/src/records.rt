@@ -1,10 +1,10 @@
 // The bindings' records, the nodes' answers and the errors.
 ghost use mathlib.Core.Path.{_≡_};
-ghost use Prim.Native.Nat.{_+_, _*_, _/_, _%_, _≤_, _<_};
+ghost use Prim.Native.Nat.{_+_, _≤_, _<_};
 ghost use lib.ListN.{length, getD, set};
 ghost use Rattle.lexical.specs.Records.{bit};
-ghost use Rattle.store.specs.Words.{bindingWord, answerWord, pairWord};
-ghost use Rattle.store.specs.Flags.{withFlag, againWord};
+ghost use Rattle.answer.specs.Records.{bindingName, bindingSlot};
+ghost use Rattle.store.specs.Words.{bindingWord, capturedWord, againWord, answerWord, pairWord};
 
 fn one(b: bool) -> u64
     ensures { λ r. ⌜ (r ≡ bit b) × (r ≤ 1) ⌝ }
@@ -27,71 +27,47 @@ pub fn put_binding(
     requires { ⌜ (id < length (now binds)) × (name < 65536) × (source < 65536) × (slot < 32768) ⌝ }
     ensures { λ _. ⌜ now (binds .exit) ≡ set (now (binds .entry)) id (bindingWord name source (bit from_module) (bit public) (bit any) 0 (bit local) slot) ⌝ }
 {
-    binds[id] = (name as u64) * 281474976710656
-        + (source as u64) * 4294967296
-        + one(from_module) * 2147483648
-        + one(public) * 1073741824
-        + one(any) * 536870912
-        + one(local) * 134217728
-        + (slot as u64) * 4096;
+    binds[id] = answer::binding::make(
+        name as u64,
+        source as u64,
+        one(from_module),
+        one(public),
+        one(any),
+        0,
+        one(local),
+        slot as u64,
+    );
 }
 
 pub fn name_of(binds: &[u64], id: usize) -> usize
     requires { ⌜ id < length (now binds) ⌝ }
-    ensures { λ r. ⌜ (r ≡ getD (now (binds .entry)) id 0 / 281474976710656) × (r < 65536) ⌝ }
+    ensures { λ r. ⌜ (r ≡ bindingName (getD (now (binds .entry)) id 0)) × (r < 65536) ⌝ }
 {
-    (binds[id] / 281474976710656) as usize
+    answer::binding::name(binds[id]) as usize
 }
 
 pub fn slot_of(binds: &[u64], id: usize) -> usize
     requires { ⌜ id < length (now binds) ⌝ }
-    ensures { λ r. ⌜ (r ≡ getD (now (binds .entry)) id 0 / 4096 % 32768) × (r < 32768) ⌝ }
+    ensures { λ r. ⌜ (r ≡ bindingSlot (getD (now (binds .entry)) id 0)) × (r < 32768) ⌝ }
 {
-    (binds[id] / 4096 % 32768) as usize
-}
-
-fn with_captured(r: u64) -> u64
-    ensures { λ x. ⌜ x ≡ withFlag 268435456 r ⌝ }
-{
-    if r / 268435456 % 2 == 0 {
-        return r + 268435456;
-    }
-    r
-}
-
-fn with_any(r: u64) -> u64
-    ensures { λ x. ⌜ x ≡ withFlag 536870912 r ⌝ }
-{
-    if r / 536870912 % 2 == 0 {
-        return r + 536870912;
-    }
-    r
-}
-
-fn with_public(r: u64) -> u64
-    ensures { λ x. ⌜ x ≡ withFlag 1073741824 r ⌝ }
-{
-    if r / 1073741824 % 2 == 0 {
-        return r + 1073741824;
-    }
-    r
+    answer::binding::slot(binds[id]) as usize
 }
 
 // The flag captured.
 pub fn set_captured(binds: &mut [u64], id: usize)
     requires { ⌜ id < length (now binds) ⌝ }
-    ensures { λ _. ⌜ now (binds .exit) ≡ set (now (binds .entry)) id (withFlag 268435456 (getD (now (binds .entry)) id 0)) ⌝ }
+    ensures { λ _. ⌜ now (binds .exit) ≡ set (now (binds .entry)) id (capturedWord (getD (now (binds .entry)) id 0)) ⌝ }
 {
     let r = binds[id];
-    binds[id] = with_captured(r);
+    binds[id] = answer::binding::with_captured(r, 1);
 }
 
 fn again(r: u64, public: bool) -> u64
     ensures { λ x. ⌜ x ≡ againWord public r ⌝ }
 {
-    let any = with_any(r);
+    let any = answer::binding::with_any(r, 1);
     if public {
-        return with_public(any);
+        return answer::binding::with_public(any, 1);
     }
     any
 }
@@ -110,7 +86,7 @@ pub fn put_answer(w: &mut [u32], at: usize, class: usize, slot: usize, id: usize
     requires { ⌜ (at < 2048) × (class < 4) × (slot < 32768) × (id < 32768) × (length (now w) ≡ 12544) ⌝ }
     ensures { λ _. ⌜ now (w .exit) ≡ set (now (w .entry)) at (answerWord class slot id) ⌝ }
 {
-    w[at] = (class * 1073741824 + slot * 32768 + id) as u32;
+    w[at] = answer::node::make(class as u64, slot as u64, id as u64);
 }
 
 // Error number e.
@@ -118,5 +94,5 @@ pub fn put_error(w: &mut [u32], e: usize, at: usize, code: usize)
     requires { ⌜ (e < 2048) × (at < 2048) × (code < 3) × (length (now w) ≡ 12544) ⌝ }
     ensures { λ _. ⌜ now (w .exit) ≡ set (now (w .entry)) (10240 + e) (pairWord at code) ⌝ }
 {
-    w[10240 + e] = (at * 65536 + code) as u32;
+    w[10240 + e] = answer::error::make(at as u64, code as u64);
 }

@@ -1,30 +1,31 @@
 // Slots and copies, in order of making.
 ghost use mathlib.Core.Path.{_≡_};
-ghost use Prim.Native.Nat.{_+_, _*_, _/_, _%_, _≤_, _<_};
+ghost use Prim.Native.Nat.{_+_, _≤_, _<_};
 ghost use lib.ListN.{length, getD, set};
 ghost use Rattle.lexical.specs.Third.{handIn};
-ghost use Rattle.store.specs.Words.{pairWord};
+ghost use Rattle.answer.specs.Records.{scopeSlots, slotScope};
+ghost use Rattle.store.specs.Words.{pairWord, copiedWord, moreWord, paramsWord};
 ghost use Rattle.store.specs.Hands.{handOf, Slotted};
 use crate::ids::Hand;
-use crate::ids::LocalSlotId;
 use crate::wide::wide;
+use answer::LocalSlotId;
 
 // The slot that the next variable of a scope gets.
 pub fn fresh_slot(w: &[u32], scope: usize) -> usize
     requires { ⌜ (scope < 256) × (length (now w) ≡ 12544) ⌝ }
-    ensures { λ r. ⌜ (r ≡ getD (now (w .entry)) (12288 + scope) 0 % 65536) × (r < 65536) ⌝ }
+    ensures { λ r. ⌜ (r ≡ scopeSlots (getD (now (w .entry)) (12288 + scope) 0)) × (r < 65536) ⌝ }
 {
-    (w[12288 + scope] % 65536) as usize
+    answer::scope::slots(w[12288 + scope]) as usize
 }
 
 // Slot record k: a fresh slot of a scope.
 pub fn put_slot(w: &mut [u32], k: usize, scope: usize, name: usize)
-    requires { ⌜ (k < 4096) × (scope < 256) × (name < 65536) × (getD (now w) (12288 + scope) 0 < 4294967295) × (length (now w) ≡ 12544) ⌝ }
-    ensures { λ _. ⌜ now (w .exit) ≡ set (set (now (w .entry)) (2048 + k) (pairWord scope name)) (12288 + scope) (getD (now (w .entry)) (12288 + scope) 0 + 1) ⌝ }
+    requires { ⌜ (k < 4096) × (scope < 256) × (name < 65536) × (length (now w) ≡ 12544) ⌝ }
+    ensures { λ _. ⌜ now (w .exit) ≡ set (set (now (w .entry)) (2048 + k) (pairWord scope name)) (12288 + scope) (moreWord (getD (now (w .entry)) (12288 + scope) 0)) ⌝ }
 {
     let n = w[12288 + scope];
-    w[2048 + k] = (scope * 65536 + name) as u32;
-    w[12288 + scope] = n + 1;
+    w[2048 + k] = answer::slot::make(scope as u64, name as u64);
+    w[12288 + scope] = answer::scope::with_slots(n, answer::scope::slots(n) + 1);
 }
 
 // Slot record k holds binding id: its number in its scope, and the binding's slot before it.
@@ -40,25 +41,25 @@ pub fn link_slot(t: &mut [u16], k: usize, id: usize, num: usize)
 
 pub fn put_copy(w: &mut [u32], c: usize, scope: usize, parent: usize, child: usize)
     requires { ⌜ (c < 4096) × (scope < 256) × (parent < 4096) × (child < 4096) × (length (now w) ≡ 12544) ⌝ }
-    ensures { λ _. ⌜ now (w .exit) ≡ set (now (w .entry)) (6144 + c) (scope * 16777216 + parent * 4096 + child) ⌝ }
+    ensures { λ _. ⌜ now (w .exit) ≡ set (now (w .entry)) (6144 + c) (copiedWord scope parent child) ⌝ }
 {
-    w[6144 + c] = (scope * 16777216 + parent * 4096 + child) as u32;
+    w[6144 + c] = answer::copy::make(scope as u64, parent as u64, child as u64);
 }
 
 pub fn set_param_count(w: &mut [u32], scope: usize, n: usize)
     requires { ⌜ (scope < 256) × (n < 2048) × (length (now w) ≡ 12544) ⌝ }
-    ensures { λ _. ⌜ now (w .exit) ≡ set (now (w .entry)) (12288 + scope) (n * 65536 + getD (now (w .entry)) (12288 + scope) 0 % 65536) ⌝ }
+    ensures { λ _. ⌜ now (w .exit) ≡ set (now (w .entry)) (12288 + scope) (paramsWord n (getD (now (w .entry)) (12288 + scope) 0)) ⌝ }
 {
-    let k = w[12288 + scope] % 65536;
-    w[12288 + scope] = (n * 65536) as u32 + k;
+    let r = w[12288 + scope];
+    w[12288 + scope] = answer::scope::with_params(r, n as u64);
 }
 
 // What is found at slot record c, else what was found before: 0 for nothing, or one more than the slot.
 fn found(w: &[u32], t: &[u16], scope: usize, c: usize, best: usize) -> usize
     requires { ⌜ (c < 4096) × (best ≤ 65536) × (length (now w) ≡ 12544) × (length (now t) ≡ 20864) ⌝ }
-    ensures { λ r. ⌜ (r ≤ 65536) × (getD (now (w .entry)) (2048 + c) 0 / 65536 ≡ scope → r ≡ getD (now (t .entry)) (16640 + c) 0 + 1) × ((getD (now (w .entry)) (2048 + c) 0 / 65536 ≡ scope → ⊥) → r ≡ best) ⌝ }
+    ensures { λ r. ⌜ (r ≤ 65536) × (slotScope (getD (now (w .entry)) (2048 + c) 0) ≡ scope → r ≡ getD (now (t .entry)) (16640 + c) 0 + 1) × ((slotScope (getD (now (w .entry)) (2048 + c) 0) ≡ scope → ⊥) → r ≡ best) ⌝ }
 {
-    if (w[2048 + c] / 65536) as usize == scope {
+    if answer::slot::scope(w[2048 + c]) as usize == scope {
         return wide(t[16640 + c]) + 1;
     }
     best

@@ -1,25 +1,25 @@
 -- A new local: a binding, a fresh slot of its scope, and the Name's record.
-use Prim.Native.Nat.{ℕ, _+_, _%_, _<_, _≤_}
+use Prim.Native.Nat.{ℕ, _+_, _<_, _≤_}
 use mathlib.Core.Path.{_≡_, refl, sym, _∙_}
 use mathlib.Core.Bool.{Bool, true, false, cond, true≢false}
 use mathlib.Core.List.{List, [], _∷_, _++_}
 use mathlib.Core.Option.{none}
 use native.Mathlib.Omega.{arith}
 use lib.ListN.{length, getD, set, length-set}
-use lib.Seq.{getD-set-other}
 use Rattle.lexical.specs.Lists.{place}
 use Rattle.lexical.specs.Binders.{Target, newVar}
 use Rattle.lexical.specs.State.{Binding}
 use Rattle.lexical.specs.Block.{slotFor}
 use Rattle.lexical.specs.Records.{bit}
+use Rattle.answer.specs.Records.{scopeSlots}
 use Rattle.store.specs.declared.ids.State.{State}
 use Rattle.store.specs.Sections.{mem, Long}
-use Rattle.store.specs.Words.{bindingWord, answerWord, pairWord}
+use Rattle.store.specs.Words.{bindingWord, answerWord, pairWord, moreWord}
 use Rattle.store.specs.Image.{MadeIn, SlotsIn}
 use Rattle.store.specs.Rel.{World, caps}
 use Rattle.store.specs.Blocks.{BlockEnv, titles, placed, varsOf, blockSt, KnownAs, InBlock, RB}
 use Rattle.store.specs.Laws.Made.{made-skip, made-push}
-use Rattle.store.specs.Laws.Slots.{slots-skip-w, slots-skip-t, slots-push, fresh-read, fresh-room, fresh-few}
+use Rattle.store.specs.Laws.Slots.{slots-skip-w, slots-skip-t, slots-push, fresh-read, fresh-few}
 use Rattle.store.specs.Laws.Copied.{copies-skip, errors-skip}
 use Rattle.store.specs.Laws.Nodes.{nodes-skip}
 use Rattle.target.specs.Target.{aTarget, Fresh, FreshDone}
@@ -31,7 +31,7 @@ use Rattle.target.proofs.New.{idAfter, slotAfter, oneLocal, new-number,
 abbrev pub localW : ℕ → ℕ → ℕ → ℕ → ℕ → ℕ → ℕ → List ℕ → List ℕ
 localW name at scope k class num id w =
     let w₁ = set w at (answerWord class num id) in
-    set (set w₁ (2048 + k) (pairWord scope name)) (12288 + scope) (getD w₁ (12288 + scope) 0 + 1)
+    set (set w₁ (2048 + k) (pairWord scope name)) (12288 + scope) (moreWord (getD w₁ (12288 + scope) 0))
 
 abbrev pub localT : ℕ → ℕ → ℕ → ℕ → ℕ → List ℕ → List ℕ
 localT name scope k num id t =
@@ -41,7 +41,7 @@ localT name scope k num id t =
 module _ {W : World} {env : List Binding} {ss : List ℕ} {E : BlockEnv} {ts : List Target} {s : State} {binds w t : List ℕ} (r : InBlock W env ss E ts s (mem binds w t))
     (x : Target) (new : place (x .name) (titles (varsOf E ts)) ≡ none) (l : E .local ≡ true) where
   -- the next slot of its scope: `fresh_slot`
-  pub local-slot : getD w (12288 + E .scope) 0 % 65536 ≡ slotAfter E ts
+  pub local-slot : scopeSlots (getD w (12288 + E .scope) 0) ≡ slotAfter E ts
   local-slot = fresh-read (parts r .slots) (E .scope) (r .facts .scope-small) ∙ fresh-count E l ts ∙ sym (r .facts .slot-local l (length (varsOf E ts)))
 
   pub local-few : s .slots < 4096 → slotAfter E ts < 4096
@@ -115,20 +115,17 @@ module _ {name at scope : ℕ} {s : State} {binds w t : List ℕ} (g : Fresh nam
   pub scope-few : scope < 256
   scope-few = rw (← (g .scope-is)) (g .rel .facts .scope-small)
 
-  pub slot-is : (num : ℕ) → num ≡ getD w (12288 + scope) 0 % 65536 → num ≡ slotAfter (g .E) (g .ts)
+  pub slot-is : (num : ℕ) → num ≡ scopeSlots (getD w (12288 + scope) 0) → num ≡ slotAfter (g .E) (g .ts)
   slot-is num e = e ∙ (rw (← (g .scope-is)) (local-slot (g .rel) (aTarget at name true true) (g .unknown) (g .local-is)))
 
-  pub slot-few : (num : ℕ) → s .slots < 4096 → num ≡ getD w (12288 + scope) 0 % 65536 → num < 4096
+  pub slot-few : (num : ℕ) → s .slots < 4096 → num ≡ scopeSlots (getD w (12288 + scope) 0) → num < 4096
   slot-few num h e = rw (slot-is num e) (local-few (g .rel) (aTarget at name true true) (g .unknown) (g .local-is) h)
 
-  pub slot-room : (w₁ : List ℕ) (v : ℕ) → w₁ ≡ set w at v → getD w₁ (12288 + scope) 0 < 4294967295
-  slot-room w₁ v e = rw (e, getD-set-other w at (12288 + scope) v 0 (omega (arith, g .node))) (fresh-room (parts (g .rel) .slots) scope scope-few)
-
 pub local-done : {name at scope : ℕ} {any public : Bool} {s : State} {binds w t binds′ w₁ w′ t₁ t₂ t′ : List ℕ} (num : ℕ) → Long (mem binds w t) → s .bindings < 2304 → s .slots < 4096
-    → num ≡ getD w (12288 + scope) 0 % 65536
+    → num ≡ scopeSlots (getD w (12288 + scope) 0)
     → binds′ ≡ set binds (s .bindings) (bindingWord name at (bit false) (bit public) (bit any) 0 (bit true) num)
     → w₁ ≡ set w at (answerWord 2 num (s .bindings))
-    → w′ ≡ set (set w₁ (2048 + s .slots) (pairWord scope name)) (12288 + scope) (getD w₁ (12288 + scope) 0 + 1)
+    → w′ ≡ set (set w₁ (2048 + s .slots) (pairWord scope name)) (12288 + scope) (moreWord (getD w₁ (12288 + scope) 0))
     → t₁ ≡ set t (4096 + name) (s .bindings + 1)
     → t₂ ≡ set t₁ (7424 + s .bindings) scope
     → t′ ≡ set (set (set t₂ (16640 + s .slots) num) (12544 + s .slots) (getD t₂ (9728 + s .bindings) 0)) (9728 + s .bindings) (s .slots + 1)

@@ -1,5 +1,5 @@
 -- A name that the block has: its binding is bound again, and the Name gets its record.
-use Prim.Native.Nat.{ℕ, _+_, _/_, _%_, _<_, _≤_}
+use Prim.Native.Nat.{ℕ, _+_, _<_, _≤_}
 use mathlib.Core.Path.{_≡_, refl, sym, ap, _∙_}
 use mathlib.Core.Bool.{Bool, true, cond, true≢false}
 use mathlib.Core.List.{List, [], _∷_, _++_}
@@ -9,10 +9,10 @@ use lib.ListN.{length, getD, set, getElem?, length-set}
 use Rattle.lexical.specs.Lists.{place}
 use Rattle.lexical.specs.Binders.{Target, Var, again}
 use Rattle.lexical.specs.State.{Binding}
+use Rattle.answer.specs.Records.{bindingSlot}
 use Rattle.store.specs.declared.ids.State.{State}
 use Rattle.store.specs.Sections.{mem}
-use Rattle.store.specs.Words.{answerWord}
-use Rattle.store.specs.Flags.{againWord}
+use Rattle.store.specs.Words.{answerWord, againWord}
 use Rattle.store.specs.Image.{MadeIn}
 use Rattle.store.specs.Rel.{World, caps}
 use Rattle.store.specs.Blocks.{BlockEnv, titles, placed, varsOf, blockSt, InBlock, RB}
@@ -52,7 +52,7 @@ module _ {W : World} {env : List Binding} {ss : List ℕ} {E : BlockEnv} {ts : L
     made = made-again (r .rel .image .made) long (E .first + k) (placed E k v) (x .public) _ stands (made-replaced E ts x k v known at (r .facts .first-is))
 
     -- its slot, as it is read again
-    pub renewed-slot : getD (set binds (E .first + k) (againWord (x .public) (getD binds (E .first + k) 0))) (E .first + k) 0 / 4096 % 32768 ≡ E .slotAt k
+    pub renewed-slot : bindingSlot (getD (set binds (E .first + k) (againWord (x .public) (getD binds (E .first + k) 0))) (E .first + k) 0) ≡ E .slotAt k
     unfolding placed
     renewed-slot = made-slot made (E .first + k) (boundAgain (x .public) (placed E k v)) (made-replaced E ts x k v known at (r .facts .first-is) .here)
 
@@ -78,7 +78,7 @@ pub again-few : {id at : ℕ} {local : Bool} {s : State} {binds w : List ℕ} �
 again-few {at = at} g = let n = g .number in omega (arith, renewed-few (g .rel) (aTarget at (g .name) true true) (g .k) (g .known))
 
 pub again-done : {id at : ℕ} {local public : Bool} {s : State} {binds w binds′ w′ : List ℕ} (class slot : ℕ) → 2304 ≤ length binds → length w ≡ 12544
-    → binds′ ≡ set binds id (againWord public (getD binds id 0)) → class ≡ cond local 2 1 → slot ≡ getD binds′ id 0 / 4096 % 32768 → w′ ≡ set w at (answerWord class slot id)
+    → binds′ ≡ set binds id (againWord public (getD binds id 0)) → class ≡ cond local 2 1 → slot ≡ bindingSlot (getD binds′ id 0) → w′ ≡ set w at (answerWord class slot id)
     → AgainDone id at local public s binds w binds′ w′
 again-done {id} {at} {local} {public} {s} {binds} {w} {binds′} {w′} class slot long long-w b c l a = record { right = λ g any. go g any }
   where
@@ -96,7 +96,7 @@ again-done {id} {at} {local} {public} {s} {binds} {w} {binds′} {w′} class sl
         b′ = b ∙ ap (λ (i : ℕ). set binds i (againWord public (getD binds i 0))) (g .number)
 
         l′ : slot ≡ g .E .slotAt (g .k)
-        l′ = l ∙ ap (λ (i : ℕ). getD binds′ i 0 / 4096 % 32768) (g .number) ∙ (rw b′ (renewed-slot (g .rel) x (g .k) (g .known) long long-w (g .node)))
+        l′ = l ∙ ap (λ (i : ℕ). bindingSlot (getD binds′ i 0)) (g .number) ∙ (rw b′ (renewed-slot (g .rel) x (g .k) (g .known) long long-w (g .node)))
 
         a′ : w′ ≡ set w at (answerWord (cond (g .E .local) 2 1) (g .E .slotAt (g .k)) (g .E .first + g .k))
         a′ = a ∙ (rw (c, g .local-is, l′, g .number) refl)

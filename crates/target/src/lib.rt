@@ -6,9 +6,9 @@ ghost use lib.ListN.{length, getD};
 ghost use lib.Dec.{eqb};
 ghost use Rattle.store.specs.Sections.{mem, Long};
 ghost use Rattle.target.specs.Target.{Again, AgainDone, Fresh, FreshDone, PreTarget, DoneTarget};
+use answer::ScopeId;
 use store::Block;
 use store::Marks;
-use store::ScopeId;
 use store::State;
 
 // Whether a target makes its name Public.

@@ -2,13 +2,13 @@
 ghost use mathlib.Core.Path.{_≡_};
 ghost use lib.ListN.{length};
 ghost use Rattle.judge.specs.Cond.{Judged};
-ghost use Rattle.scope.specs.Buffers.{buffers};
+ghost use Rattle.answer.specs.Buffers.{buffers};
 ghost use Rattle.scope.specs.Answer.{Resolves};
 ghost use Rattle.follow.specs.Place.{followed};
 ghost use Rattle.listing.specs.Text.{Listed};
 ghost use Rattle.vaibmusan.specs.Border.{Stands, homeOf};
-use scope::Answer;
-use store::LocalSlotId;
+use answer::Answer;
+use answer::LocalSlotId;
 
 // A stretch of the file.
 #[repr(C)]

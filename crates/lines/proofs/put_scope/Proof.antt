@@ -2,7 +2,7 @@
 -- Assumes nothing.
 use mathlib.Core.Path.{refl}
 use Rattle.lines.specs.Lines.{scopeLine}
-use Rattle.text.specs.Laws.{puts-then, puts-line}
+use Rattle.text.specs.Laws.{puts-then, puts-text}
 use Rattle.lines.proofs.put_scope.Statement.{statement}
 use Rattle.lines.proofs.put_scope.Tie as tie
 
@@ -14,6 +14,9 @@ put-number-requires c κs = tt
 
 slice-aggregate-put-number-2 : tie.Need-slice-aggregate-put-number-2
 slice-aggregate-put-number-2 c = refl
+
+params-requires : tie.Need-params-requires
+params-requires c κs = tt
 
 put-number-requires-2 : tie.Need-put-number-requires-2
 put-number-requires-2 c κs = tt
@@ -40,8 +43,8 @@ returns c =
     let p4 = p5 .before .before .before .before .before in
     let p3 = p4 .before .before .before .before in
     let p2 = p3 .before .before .before .before .before in
-    let p1 = p2 .before .before .before .before .before in
-    puts-line (puts-then (p1 .put-number .ensures) (puts-then (p2 .put-number2 .ensures) (puts-then (p3 .put-bytes .ensures) (puts-then (p4 .put-names .ensures) (p5 .put-bytes2 .ensures)))))
+    let p1 = p2 .before .before .before .before .before .before in
+    puts-text (puts-then (p1 .put-number .ensures) (puts-then (p2 .put-number2 .ensures) (puts-then (p3 .put-bytes .ensures) (puts-then (p4 .put-names .ensures) (p5 .put-bytes2 .ensures))))) (rw (p2 .before .params .ensures .is) refl)
 
 same-length : tie.Need-same-length
 same-length c = returns c .long
@@ -53,6 +56,7 @@ put-scope-spec =
     slice-aggregate-put-number
     put-number-requires
     slice-aggregate-put-number-2
+    params-requires
     put-number-requires-2
     slice-aggregate-put-bytes
     put-bytes-requires

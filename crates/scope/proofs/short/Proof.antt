@@ -1,7 +1,7 @@
 -- `scope::short` meets its contract: one length after the other.
 -- Assumes nothing.
 use native.Mathlib.Omega.{arith}
-use Rattle.scope.specs.Buffers.{short-nodes, short-bindings, short-entries, short-scopes, short-slots, short-copies, short-errors}
+use Rattle.answer.specs.Buffers.{short-nodes, short-bindings, short-entries, short-scopes, short-slots, short-copies, short-errors}
 use Rattle.scope.proofs.short.Statement.{statement}
 use Rattle.scope.proofs.short.Tie as tie
 

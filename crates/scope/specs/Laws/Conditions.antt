@@ -8,7 +8,7 @@ use lib.ListN.{List·getD-append}
 use Rattle.base.specs.Smallest.{Clear, Smallest, found, none, smallest-clear}
 use Rattle.judge.specs.Cond as judging
 use Rattle.judge.specs.Cond.{Judged}
-use Rattle.scope.specs.Buffers.{Buffers, Short}
+use Rattle.answer.specs.Buffers.{Buffers, Short}
 use Rattle.scope.specs.Answer.{ManySlots, Cond}
 
 module _ (bs : List ℕ) (b : Buffers) where

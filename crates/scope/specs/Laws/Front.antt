@@ -8,7 +8,7 @@ use lib.ListN.{length, getD, replicate, length-append, length-replicate}
 use lib.Seq.{ext-getD}
 use Rattle.store.specs.Sections.{wordAt, orZero}
 use Rattle.store.specs.Laws.Points.{zeros}
-use Rattle.scope.specs.Buffers.{Front}
+use Rattle.answer.specs.Buffers.{Front}
 
 pub get-past : (l : List ℕ) (i : ℕ) → length l ≤ i → getD l i 0 ≡ 0
 get-past [] i h = refl

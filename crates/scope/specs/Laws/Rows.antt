@@ -23,7 +23,7 @@ use Rattle.lexical.specs.Code.Capacity.{named-size}
 use Rattle.lexical.specs.Code.Rows.{node-once}
 use Rattle.store.specs.Words.{rowNode}
 use Rattle.scope.specs.Laws.Lists.{times-at, in-times, first-once}
-use Rattle.scope.specs.Packed.{ofNode, answerOf, nodeAnswer}
+use Rattle.scope.specs.Nodes.{ofNode, answerOf, nodeAnswer}
 
 name-node : (x : Named) → rowNode (rec.titleRow x) ≡ x .node
 unfolding rec.nameRow

@@ -1,11 +1,11 @@
 -- The copies and the errors in the working list w: one more.
-use Prim.Native.Nat.{ℕ, _+_, _*_, _<_}
+use Prim.Native.Nat.{ℕ, _+_, _<_}
 use mathlib.Core.Path.{_≡_, refl}
 use mathlib.Core.List.{List, [], _∷_, _++_}
 use native.Mathlib.Omega.{arith}
 use lib.ListN.{length, set, length-append}
 use Rattle.lexical.specs.State.{Copy}
-use Rattle.store.specs.Words.{pairWord, copyWord, errorWord}
+use Rattle.store.specs.Words.{pairWord, copiedWord, copyWord, errorWord}
 use Rattle.store.specs.Image.{CopiesIn, ErrorsIn}
 use Rattle.store.specs.Laws.Points.{Off, Zeros, point-none, point-skip, point-push}
 
@@ -21,7 +21,7 @@ module _ {cs : List Copy} {w : List ℕ} (m : CopiesIn cs w) where
   copies-skip j v h = record { rows = point-skip w 6144 4096 _ j v h (m .rows); few = m .few }
 
   -- one more: `put_copy`
-  pub copies-push : length w ≡ 12544 → (c : Copy) (k : ℕ) → k ≡ length cs → k < 4096 → CopiesIn (cs ++ (c ∷ [])) (set w (6144 + k) (c .scope * 16777216 + c .parent * 4096 + c .child))
+  pub copies-push : length w ≡ 12544 → (c : Copy) (k : ℕ) → k ≡ length cs → k < 4096 → CopiesIn (cs ++ (c ∷ [])) (set w (6144 + k) (copiedWord (c .scope) (c .parent) (c .child)))
   unfolding copyWord
   copies-push long c k e h =
       record { rows = point-push copyWord w 6144 4096 cs c (6144 + k) _ (omega arith) (omega arith) refl (m .rows); few = omega (arith, length-append cs (c ∷ [])) }

@@ -1,11 +1,10 @@
 -- The bindings in the working lists: one more, one bound again, one captured; and what their records give back.
-use Prim.Native.Nat.{ℕ, zero, suc, _+_, _*_, _/_, _%_, _<_, _≤_}
+use Prim.Native.Nat.{ℕ, _+_, _<_, _≤_}
 use mathlib.Core.Path.{_≡_, refl, sym, ap, _∙_}
 use mathlib.Core.Bool.{Bool, true, false, _||_, or-false, or-true}
 use mathlib.Core.List.{List, [], _∷_, _++_}
 use mathlib.Core.Option.{some}
 use native.Mathlib.Omega.{arith}
-use native.Mathlib.Nat.{add-mul, mul-add-div-right, div-eq-of-lt}
 use native.Mathlib.Decide.{ℕ-discrete}
 use lib.Dec.{eqb}
 use lib.ListN.{length, getD, set, getElem?, length-append}
@@ -14,8 +13,11 @@ use Rattle.lexical.specs.Places.{at-below, at-end}
 use Rattle.lexical.specs.State.{Binding}
 use Rattle.lexical.specs.Records.{bit}
 use Rattle.store.specs.Sections.{Point, wordAt, orZero}
-use Rattle.store.specs.Words.{bindingWord, bindWord}
-use Rattle.store.specs.Flags.{withFlag, againWord}
+use Rattle.bits.specs.Pack.{Narrow}
+use Rattle.answer.specs.Fields.{fields, changed}
+use Rattle.answer.specs.Records.{bindingWidths, bindingOf, bindingName, bindingSlot}
+use Rattle.answer.specs.Laws.{part-packed, changed-packed}
+use Rattle.store.specs.Words.{bindingWord, bindWord, capturedWord, againWord}
 use Rattle.store.specs.Image.{Sound, MadeIn}
 use Rattle.store.specs.Laws.Points.{Off, Zeros, Replaced, at-others, point-none, point-skip, point-same, point-push, point-set, point-replaced, point-kept, replaced-long, absent-past, word-at}
 
@@ -23,76 +25,55 @@ use Rattle.store.specs.Laws.Points.{Off, Zeros, Replaced, at-others, poi
 abbrev pub boundAgain : Bool → Binding → Binding
 boundAgain public b = record { id = b .id; var = record { name = b .var .name; source = b .var .source; entry = b .var .entry; public = b .var .public || public; any = true }; local = b .local; owner = b .owner; slot = b .slot }
 
--- ---- a flag
-
--- of a record whose flag of weight f is x, with `high` above it and `low` below
-pub flag-set : (f high x low : ℕ) → 0 < f → x ≤ 1 → low < f → withFlag f ((high * 2 + x) * f + low) ≡ (high * 2 + 1) * f + low
-flag-set f high x low p h l = go x h (ap (λ (y : ℕ). y % 2) (mul-add-div-right p (high * 2 + x) low) ∙ omega (arith, div-eq-of-lt l))
-  where
-    go : (x : ℕ) → x ≤ 1 → ((high * 2 + x) * f + low) / f % 2 ≡ x → withFlag f ((high * 2 + x) * f + low) ≡ (high * 2 + 1) * f + low
-    go zero h e = rw e (omega (arith, add-mul (high * 2) 0 f, add-mul (high * 2) 1 f))
-    go (suc zero) h e = rw e refl
-    go (suc (suc x)) h e = absurd (omega arith)
-
-flagged : (f high x low r r′ : ℕ) → r ≡ (high * 2 + x) * f + low → (high * 2 + 1) * f + low ≡ r′ → 0 < f → x ≤ 1 → low < f → withFlag f r ≡ r′
-flagged f high x low r r′ e e′ p h l = ap (withFlag f) e ∙ flag-set f high x low p h l ∙ e′
-
-bit-few : (x : Bool) → bit x ≤ 1
-unfolding bit
-bit-few true = omega arith
-bit-few false = omega arith
-
 -- ---- what a record gives back, whatever its three flags are
 
+abbrev flagsRow : Binding → Bool → Bool → Bool → List ℕ
+flagsRow b public any captured = b .var .name ∷ b .var .source ∷ bit (b .var .entry) ∷ bit public ∷ bit any ∷ bit captured ∷ bit (b .local) ∷ b .slot ∷ []
+
 abbrev flags : Binding → Bool → Bool → Bool → ℕ
-flags b public any captured = bindingWord (b .var .name) (b .var .source) (bit (b .var .entry)) (bit public) (bit any) (bit captured) (bit (b .local)) (b .slot)
+flags b public any captured = bindingOf (flagsRow b public any captured)
+
+pub bit-below : (x : Bool) → bit x < 2
+unfolding bit
+bit-below true = omega arith
+bit-below false = omega arith
 
 module _ {i : ℕ} {b : Binding} (s : Sound i b) (p a c : Bool) where
-  word-name : flags b p a c / 281474976710656 ≡ b .var .name
-  unfolding bindingWord
-  word-name = omega (arith, bit-few (b .var .entry), bit-few p, bit-few a, bit-few c, bit-few (b .local))
+  -- each field fits
+  pub flags-narrow : Narrow (fields bindingWidths (flagsRow b p a c))
+  flags-narrow = (omega (arith, s .name), (s .source, (bit-below (b .var .entry), (bit-below p, (bit-below a, (bit-below c, (bit-below (b .local), (s .slot, (omega arith, tt)))))))))
 
-  word-slot : flags b p a c / 4096 % 32768 ≡ b .slot
-  unfolding bindingWord
-  word-slot = omega arith
+  flag-captured : capturedWord (flags b p a c) ≡ flags b p a true
+  unfolding bit
+  flag-captured = changed-packed bindingWidths (flagsRow b p a c) flags-narrow 5 1 (omega arith)
 
-  flag-captured : withFlag 268435456 (flags b p a c) ≡ flags b p a true
-  unfolding bindingWord bit
-  flag-captured =
-      flagged 268435456 (b .var .name * 524288 + b .var .source * 8 + bit (b .var .entry) * 4 + bit p * 2 + bit a) (bit c) (bit (b .local) * 134217728 + b .slot * 4096)
-      (flags b p a c) (flags b p a true) (omega arith) (omega arith) (omega arith) (bit-few c) (omega (arith, bit-few (b .local)))
+  flag-any : changed bindingWidths 4 1 (flags b p a c) ≡ flags b p true c
+  unfolding bit
+  flag-any = changed-packed bindingWidths (flagsRow b p a c) flags-narrow 4 1 (omega arith)
 
-  flag-any : withFlag 536870912 (flags b p a c) ≡ flags b p true c
-  unfolding bindingWord bit
-  flag-any =
-      flagged 536870912 (b .var .name * 262144 + b .var .source * 4 + bit (b .var .entry) * 2 + bit p) (bit a) (bit c * 268435456 + bit (b .local) * 134217728 + b .slot * 4096)
-      (flags b p a c) (flags b p true c) (omega arith) (omega arith) (omega arith) (bit-few a) (omega (arith, bit-few c, bit-few (b .local)))
-
-  flag-public : withFlag 1073741824 (flags b p a c) ≡ flags b true a c
-  unfolding bindingWord bit
-  flag-public =
-      flagged 1073741824 (b .var .name * 131072 + b .var .source * 2 + bit (b .var .entry)) (bit p) (bit a * 536870912 + bit c * 268435456 + bit (b .local) * 134217728 + b .slot * 4096)
-      (flags b p a c) (flags b true a c) (omega arith) (omega arith) (omega arith) (bit-few p) (omega (arith, bit-few a, bit-few c, bit-few (b .local)))
+  flag-public : changed bindingWidths 3 1 (flags b p a c) ≡ flags b true a c
+  unfolding bit
+  flag-public = changed-packed bindingWidths (flagsRow b p a c) flags-narrow 3 1 (omega arith)
 
 -- ---- the record of a binding
 
 module _ (cap : ℕ → Bool) {i : ℕ} {b : Binding} (s : Sound i b) where
-  pub bind-name : bindWord cap b / 281474976710656 ≡ b .var .name
-  unfolding bindWord
-  bind-name = word-name s _ _ _
+  pub bind-name : bindingName (bindWord cap b) ≡ b .var .name
+  unfolding bindWord bindingWord
+  bind-name = part-packed bindingWidths (flagsRow b (b .var .public) (b .var .any) (cap (b .id))) (flags-narrow s _ _ _) 0 (omega arith)
 
-  pub bind-slot : bindWord cap b / 4096 % 32768 ≡ b .slot
-  unfolding bindWord
-  bind-slot = word-slot s _ _ _
+  pub bind-slot : bindingSlot (bindWord cap b) ≡ b .slot
+  unfolding bindWord bindingWord
+  bind-slot = part-packed bindingWidths (flagsRow b (b .var .public) (b .var .any) (cap (b .id))) (flags-narrow s _ _ _) 7 (omega arith)
 
-  pub bind-captured : (cap′ : ℕ → Bool) → cap′ i ≡ true → withFlag 268435456 (bindWord cap b) ≡ bindWord cap′ b
-  unfolding bindWord
+  pub bind-captured : (cap′ : ℕ → Bool) → cap′ i ≡ true → capturedWord (bindWord cap b) ≡ bindWord cap′ b
+  unfolding bindWord bindingWord
   bind-captured cap′ e = flag-captured s (b .var .public) (b .var .any) (cap (b .id)) ∙ (rw (s .id, e) refl)
 
   pub bind-again : (public : Bool) → againWord public (bindWord cap b) ≡ bindWord cap (boundAgain public b)
-  unfolding bindWord
+  unfolding bindWord bindingWord
   bind-again true =
-      ap (withFlag 1073741824) (flag-any s (b .var .public) (b .var .any) (cap (b .id)))
+      ap (changed bindingWidths 3 1) (flag-any s (b .var .public) (b .var .any) (cap (b .id)))
       ∙ flag-public s (b .var .public) true (cap (b .id))
       ∙ ap (λ (x : Bool). flags b x true (cap (b .id))) (sym (or-true (b .var .public)))
   bind-again false = flag-any s (b .var .public) (b .var .any) (cap (b .id)) ∙ ap (λ (x : Bool). flags b x true (cap (b .id))) (sym (or-false (b .var .public)))
@@ -116,11 +97,11 @@ module _ {bs : List Binding} {cap : ℕ → Bool} {binds t : List ℕ} (m : Made
   made-word : (i : ℕ) (b : Binding) → getElem? bs i ≡ some b → getD binds i 0 ≡ bindWord cap b
   made-word i b e = let z : 0 + i ≡ i = omega arith in (rw z at (m .words i (made-few i b e))) ∙ word-at (bindWord cap) bs i b e
 
-  pub made-name : (i : ℕ) (b : Binding) → getElem? bs i ≡ some b → getD binds i 0 / 281474976710656 ≡ b .var .name
-  made-name i b e = ap (λ (x : ℕ). x / 281474976710656) (made-word i b e) ∙ bind-name cap (m .sound i b e)
+  pub made-name : (i : ℕ) (b : Binding) → getElem? bs i ≡ some b → bindingName (getD binds i 0) ≡ b .var .name
+  made-name i b e = ap bindingName (made-word i b e) ∙ bind-name cap (m .sound i b e)
 
-  pub made-slot : (i : ℕ) (b : Binding) → getElem? bs i ≡ some b → getD binds i 0 / 4096 % 32768 ≡ b .slot
-  made-slot i b e = ap (λ (x : ℕ). x / 4096 % 32768) (made-word i b e) ∙ bind-slot cap (m .sound i b e)
+  pub made-slot : (i : ℕ) (b : Binding) → getElem? bs i ≡ some b → bindingSlot (getD binds i 0) ≡ b .slot
+  made-slot i b e = ap bindingSlot (made-word i b e) ∙ bind-slot cap (m .sound i b e)
 
   pub made-owner : (i : ℕ) (b : Binding) → getElem? bs i ≡ some b → getD t (7424 + i) 0 ≡ b .owner
   made-owner i b e = m .owners i (made-few i b e) ∙ word-at (λ (b : Binding). b .owner) bs i b e
@@ -178,13 +159,13 @@ module _ {bs : List Binding} {cap : ℕ → Bool} {binds t : List ℕ} (m : Made
 
     -- one captured: `set_captured`
     pub made-captured : (i : ℕ) (cap′ : ℕ → Bool) → i < length bs → ((j : ℕ) → cap′ j ≡ (cap j || eqb j i))
-        → MadeIn bs cap′ (set binds i (withFlag 268435456 (getD binds i 0))) t
+        → MadeIn bs cap′ (set binds i (capturedWord (getD binds i 0))) t
     made-captured i cap′ h e = record { words = go (opened (getElem? bs i)); owners = m .owners; few = m .few; sound = m .sound }
       where
-        go : Opened (getElem? bs i) → Point (set binds i (withFlag 268435456 (getD binds i 0))) 0 2304 (wordAt (bindWord cap′) bs)
+        go : Opened (getElem? bs i) → Point (set binds i (capturedWord (getD binds i 0))) 0 2304 (wordAt (bindWord cap′) bs)
         go (absent q) = absurd (omega (arith, absent-past bs i q))
         go (present b q) =
             point-set binds 0 2304 (wordAt (bindWord cap) bs) (wordAt (bindWord cap′) bs) i i _ (omega arith) (omega (arith, made-few i b q))
-            (word-at (bindWord cap′) bs i b q ∙ sym (ap (withFlag 268435456) (made-word i b q) ∙ bind-captured cap (m .sound i b q) cap′ (e i ∙ (rw (eqb-self i) (or-true (cap i))))))
+            (word-at (bindWord cap′) bs i b q ∙ sym (ap (capturedWord) (made-word i b q) ∙ bind-captured cap (m .sound i b q) cap′ (e i ∙ (rw (eqb-self i) (or-true (cap i))))))
             (λ j _ o. sym (same-word cap′ j (λ _. sym (e j ∙ (rw (eqb-not j i o) (or-false (cap j)))))))
             (m .words)

@@ -1,10 +1,11 @@
 -- The slots in the working lists: one more, a scope's parameters, the next slot of a scope.
-use Prim.Native.Nat.{ℕ, suc, _+_, _*_, _%_, _<_, _≤_}
-use mathlib.Core.Path.{_≡_, refl, sym, _∙_}
+use Prim.Native.Nat.{ℕ, suc, _+_, _%_, _<_, _≤_}
+use mathlib.Core.Path.{_≡_, refl, sym, ap, _∙_}
 use mathlib.Core.Bool.{Bool, true, false, cond}
 use mathlib.Core.List.{List, [], _∷_, _++_}
 use mathlib.Core.Option.{some}
 use native.Mathlib.Omega.{arith}
+use native.Mathlib.Nat.{mod-eq-of-lt}
 use native.Mathlib.Decide.{ℕ-discrete}
 use lib.ListN.{length, getD, set, getElem?, length-append, length-set}
 use Rattle.lexical.specs.Lists.{count, eqb-self, eqb-not, none-some}
@@ -12,8 +13,12 @@ use Rattle.lexical.specs.Places.{at-end}
 use Rattle.lexical.specs.State.{Slot}
 use Rattle.lexical.specs.Block.{inScope, freshIn}
 use Rattle.lexical.specs.Proof.Slots.{fresh-snoc, fresh-at}
+use Rattle.bits.specs.Pack.{Narrow}
+use Rattle.answer.specs.Fields.{fields}
+use Rattle.answer.specs.Records.{pairWidths, scopeSlots}
+use Rattle.answer.specs.Laws.{part-packed, changed-packed}
 use Rattle.store.specs.Sections.{orZero}
-use Rattle.store.specs.Words.{pairWord, slotWord}
+use Rattle.store.specs.Words.{pairWord, moreWord, paramsWord, slotWord}
 use Rattle.store.specs.Image.{lastFrom, before, SlotsIn}
 use Rattle.store.specs.Laws.Chain.{last-snoc, before-end, before-others}
 use Rattle.store.specs.Laws.Points.{Off, Zeros, at-others, point-none, point-skip, point-set, point-push}
@@ -43,6 +48,16 @@ slots-none w t z y =
       sound = λ k r e. absurd (none-some refl e);
     }
 
+-- a scope's record with one slot more
+pub more-word : (p n : ℕ) → p < 65536 → n < 65535 → moreWord (pairWord p n) ≡ pairWord p (n + 1)
+more-word p n h l =
+    changed-packed pairWidths (p ∷ n ∷ []) fits 1 (scopeSlots (pairWord p n) + 1) (omega arith)
+    ∙ ap (λ (x : ℕ). pairWord p ((x + 1) % 65536)) (part-packed pairWidths (p ∷ n ∷ []) fits 1 (omega arith))
+    ∙ ap (pairWord p) (mod-eq-of-lt (omega arith))
+  where
+    fits : Narrow (fields pairWidths (p ∷ n ∷ []))
+    fits = (h, (omega arith, tt))
+
 module _ {rs : List Slot} {P : ℕ → ℕ} {w t : List ℕ} (m : SlotsIn rs P w t) where
   -- a store elsewhere
   pub slots-skip-w : (j v : ℕ) → Off j 2048 4096 → Off j 12288 256 → SlotsIn rs P (set w j v) t
@@ -62,17 +77,14 @@ module _ {rs : List Slot} {P : ℕ → ℕ} {w t : List ℕ} (m : SlotsIn rs P w
         sound = m .sound;
       }
 
-  -- the next slot of a scope: `fresh_slot`; and there is room for one more: `put_slot`
-  pub fresh-read : (s : ℕ) → s < 256 → getD w (12288 + s) 0 % 65536 ≡ freshIn s rs
+  -- the next slot of a scope: `fresh_slot`
+  pub fresh-read : (s : ℕ) → s < 256 → scopeSlots (getD w (12288 + s) 0) ≡ freshIn s rs
   fresh-read s h = omega (arith, m .scopes s h, m .few, fresh-few s rs)
-
-  pub fresh-room : (s : ℕ) → s < 256 → getD w (12288 + s) 0 < 4294967295
-  fresh-room s h = omega (arith, m .scopes s h, m .params s h, m .few, fresh-few s rs)
 
   module _ (long-w : length w ≡ 12544) where
     -- other parameter variables of scope s: `set_param_count`
     pub slots-params : (P′ : ℕ → ℕ) (s n : ℕ) → s < 256 → n < 65536 → P′ s ≡ n → ((u : ℕ) → (u ≡ s → ⊥) → P′ u ≡ P u)
-        → SlotsIn rs P′ (set w (12288 + s) (n * 65536 + getD w (12288 + s) 0 % 65536)) t
+        → SlotsIn rs P′ (set w (12288 + s) (paramsWord n (getD w (12288 + s) 0))) t
     slots-params P′ s n h g e o =
         record {
           rows = point-skip w 2048 4096 _ _ _ (omega arith) (m .rows);
@@ -88,12 +100,12 @@ module _ {rs : List Slot} {P : ℕ → ℕ} {w t : List ℕ} (m : SlotsIn rs P w
     -- one more: `put_slot` and `link_slot`
     pub slots-push : length t ≡ 20864 → (r : Slot) (k : ℕ) → k ≡ length rs → k < 4096 → r .num ≡ freshIn (r .scope) rs → r .scope < 256 → r .name < 65536 → r .id < 2304
         → SlotsIn (rs ++ (r ∷ [])) P
-        (set (set w (2048 + k) (pairWord (r .scope) (r .name))) (12288 + r .scope) (getD w (12288 + r .scope) 0 + 1))
+        (set (set w (2048 + k) (pairWord (r .scope) (r .name))) (12288 + r .scope) (moreWord (getD w (12288 + r .scope) 0)))
         (set (set (set t (16640 + k) (r .num)) (12544 + k) (getD t (9728 + r .id) 0)) (9728 + r .id) (k + 1))
     slots-push long-t r k e h n s a i =
         record {
           rows = point-skip w₁ 2048 4096 _ _ _ (omega arith) (point-push slotWord w 2048 4096 rs r (2048 + k) _ (omega arith) (omega arith) (unfold slotWord in refl) (m .rows));
-          scopes = point-set w₁ 12288 256 _ _ (12288 + r .scope) (r .scope) _ refl (omega (arith, long-w₁)) (omega (arith, fresh-at rs r, m .scopes (r .scope) s))
+          scopes = point-set w₁ 12288 256 _ _ (12288 + r .scope) (r .scope) _ refl (omega (arith, long-w₁)) (ap (pairWord (P (r .scope))) one-more ∙ sym (ap moreWord (m .scopes (r .scope) s) ∙ more-word (P (r .scope)) (freshIn (r .scope) rs) (m .params (r .scope) s) (omega (arith, m .few, fresh-few (r .scope) rs))))
               (λ u _ z. rw (fresh-snoc u rs r, eqb-not (r .scope) u (λ q. z (sym q))) refl) (point-skip w 12288 256 _ _ _ (omega arith) (m .scopes));
           nums = point-skip t₂ 16640 4096 _ _ _ (omega arith)
               (point-skip t₁ 16640 4096 _ _ _ (omega arith) (point-push (λ (r : Slot). r .num) t 16640 4096 rs r (16640 + k) _ (omega arith) (omega arith) refl (m .nums)));
@@ -108,6 +120,9 @@ module _ {rs : List Slot} {P : ℕ → ℕ} {w t : List ℕ} (m : SlotsIn rs P w
           sound = λ j x q. go j x q (ℕ-discrete j (length rs));
         }
       where
+        one-more : freshIn (r .scope) (rs ++ (r ∷ [])) ≡ freshIn (r .scope) rs + 1
+        one-more = omega (arith, fresh-at rs r)
+
         w₁ : List ℕ
         w₁ = set w (2048 + k) (pairWord (r .scope) (r .name))
 

@@ -3,7 +3,7 @@ use mathlib.Core.Path.{ap}
 use native.Mathlib.Omega.{arith}
 use lib.ListN.{length, length-set}
 use Rattle.target.proofs.New.{fresh-many, fresh-slots}
-use Rattle.target.proofs.Local.{scope-few, slot-few, slot-room, local-done}
+use Rattle.target.proofs.Local.{scope-few, slot-few, local-done}
 use borrow.Author.Needs.{needs}
 use Rattle.target.proofs.new_local.Statement.{statement}
 use Rattle.target.proofs.new_local.Tie as tie
@@ -30,7 +30,7 @@ put-answer-requires : tie.Need-put-answer-requires
 put-answer-requires c κs = let g = c .before .before .before .before .before .before .before .before .before .before .before .before .pre .1 in omega (arith, slot-few g (c .before .before .before .before .before .fresh-slot .result) (omega arith) (c .before .before .before .before .before .fresh-slot .ensures .0), g .node)
 
 put-slot-requires : tie.Need-put-slot-requires
-put-slot-requires c κs = let g = c .before .before .before .before .before .before .before .before .before .before .before .before .before .before .before .before .pre .1 in (omega arith, scope-few g, omega (arith, g .small), slot-room g _ _ (c .before .before .before .put-answer .ensures), search needs)
+put-slot-requires c κs = let g = c .before .before .before .before .before .before .before .before .before .before .before .before .before .before .before .before .pre .1 in (omega arith, scope-few g, omega (arith, g .small), search needs)
 
 put-known-requires : tie.Need-put-known-requires
 put-known-requires c κs = search needs

@@ -25,7 +25,7 @@ put-slot-requires : tie.Need-put-slot-requires
 put-slot-requires c κs =
     let f = copy-fits (omega arith) (c .before .before .before .before .before .before .before .before .before .before .before .before .pre .1) in
     let e = c .before .before .before .put-copy .ensures in
-    (search needs, f .scope-small, c .before .before .before .before .before .name-of .ensures .1, rw e (f .room _), rw e (simp length-set (c .before .before .before .before .before .before .before .before .before .before .before .before .pre .0 .w)))
+    (search needs, f .scope-small, c .before .before .before .before .before .name-of .ensures .1, rw e (simp length-set (c .before .before .before .before .before .before .before .before .before .before .before .before .pre .0 .w)))
 
 link-slot-requires : tie.Need-link-slot-requires
 link-slot-requires c κs = let f = copy-fits (omega arith) (c .before .before .before .before .before .before .before .before .before .before .before .before .before .before .before .before .pre .1) in (omega arith, f .id-small, omega (arith, c .before .before .before .before .before .before .before .before .before .before .fresh-slot .ensures .0), c .before .before .before .before .before .before .before .before .before .before .before .before .before .before .before .before .pre .0 .t)

@@ -4,7 +4,7 @@ use Prim.Native.Nat.{ℕ, _-_, _≤_}
 use native.Mathlib.Omega.{arith}
 use lib.ListN.{getD}
 use Rattle.scope.specs.Filled.{Filled, filled-none, filled-more, filled-end}
-use Rattle.scope.specs.Packed.{entryFrom}
+use Rattle.answer.specs.Records.{entryFrom}
 use Rattle.scope.proofs.out.put_entries.Statement.{statement}
 use Rattle.scope.proofs.out.put_entries.Tie as tie
 

@@ -1,65 +1,32 @@
--- `put_binding` meets its contract: the fields lie side by side, and the flag captured is 0.
-use mathlib.Core.Path.{ap}
+-- `put_binding` meets its contract: each field fits, and the flag captured is 0.
+use mathlib.Core.Path.{refl, ap, _∙_}
+use mathlib.Core.List.{[], _∷_}
 use native.Mathlib.Omega.{arith}
 use lib.ListN.{set}
+use Rattle.answer.specs.Records.{bindingWidths}
+use Rattle.answer.specs.Laws.{cut-fits}
 use Rattle.store.specs.Words.{bindingWord}
 use borrow.Author.Needs.{needs}
 use Rattle.store.proofs.records.put_binding.Statement.{statement}
 use Rattle.store.proofs.records.put_binding.Tie as tie
 
-mul-binds : tie.Need-mul-binds
-mul-binds c = search needs
-
-mul-binds-2 : tie.Need-mul-binds-2
-mul-binds-2 c = search needs
-
-add-binds : tie.Need-add-binds
-add-binds c = search needs
-
 one-requires : tie.Need-one-requires
-one-requires c κs = search needs
-
-mul-binds-3 : tie.Need-mul-binds-3
-mul-binds-3 c = search needs
-
-add-binds-2 : tie.Need-add-binds-2
-add-binds-2 c = search needs
+one-requires c κs = tt
 
 one-requires-2 : tie.Need-one-requires-2
-one-requires-2 c κs = search needs
-
-mul-binds-4 : tie.Need-mul-binds-4
-mul-binds-4 c = search needs
-
-add-binds-3 : tie.Need-add-binds-3
-add-binds-3 c = search needs
+one-requires-2 c κs = tt
 
 one-requires-3 : tie.Need-one-requires-3
-one-requires-3 c κs = search needs
-
-mul-binds-5 : tie.Need-mul-binds-5
-mul-binds-5 c = search needs
-
-add-binds-4 : tie.Need-add-binds-4
-add-binds-4 c = search needs
+one-requires-3 c κs = tt
 
 one-requires-4 : tie.Need-one-requires-4
-one-requires-4 c κs = search needs
+one-requires-4 c κs = tt
 
-mul-binds-6 : tie.Need-mul-binds-6
-mul-binds-6 c = search needs
+make-requires : tie.Need-make-requires
+make-requires c κs = tt
 
-add-binds-5 : tie.Need-add-binds-5
-add-binds-5 c = search needs
-
-mul-binds-7 : tie.Need-mul-binds-7
-mul-binds-7 c = search needs
-
-add-binds-6 : tie.Need-add-binds-6
-add-binds-6 c = search needs
-
-mul-binds-8 : tie.Need-mul-binds-8
-mul-binds-8 c = search needs
+mul-binds : tie.Need-mul-binds
+mul-binds c = search needs
 
 slice-write-binds : tie.Need-slice-write-binds
 slice-write-binds c = search needs
@@ -68,30 +35,26 @@ same-length : tie.Need-same-length
 same-length c = search needs
 
 returns : tie.Need-returns
-returns c = ap (set (c .before .before .before .before .before .args .binds .now) (c .before .before .before .before .before .args .id)) (unfold bindingWord in omega (arith, c .before .before .before .one .ensures .0, c .before .before .one2 .ensures .0, c .before .one3 .ensures .0, c .one4 .ensures .0))
+unfolding bindingWord
+returns c =
+    let a = c .before .before .before .before .before .before .args in
+    let o₁ = c .before .before .before .before .one in
+    let o₂ = c .before .before .before .one2 in
+    let o₃ = c .before .before .one3 in
+    let o₄ = c .before .one4 in
+    let row = a .name ∷ a .source ∷ o₁ .result ∷ o₂ .result ∷ o₃ .result ∷ 0 ∷ o₄ .result ∷ a .slot ∷ [] in
+    ap (set (a .binds .now) (a .id)) (c .make .ensures ∙ cut-fits bindingWidths row (omega arith, (omega arith, (omega (arith, o₁ .ensures), (omega (arith, o₂ .ensures), (omega (arith, o₃ .ensures), (omega arith, (omega (arith, o₄ .ensures), (omega arith, (omega arith, tt))))))))) ∙ (rw (o₁ .ensures .0, o₂ .ensures .0, o₃ .ensures .0, o₄ .ensures .0) refl))
 
 pub put-binding-spec : {M : Type 1} → statement M
 put-binding-spec =
     tie.close
     (tie.spec
-    mul-binds
-    mul-binds-2
-    add-binds
     one-requires
-    mul-binds-3
-    add-binds-2
     one-requires-2
-    mul-binds-4
-    add-binds-3
     one-requires-3
-    mul-binds-5
-    add-binds-4
     one-requires-4
-    mul-binds-6
-    add-binds-5
-    mul-binds-7
-    add-binds-6
-    mul-binds-8
+    make-requires
+    mul-binds
     slice-write-binds
     same-length
     returns)

@@ -1,4 +1,4 @@
--- `set_captured` meets its contract, by that of `with_captured`.
+-- `set_captured` meets its contract, by that of the writer.
 use mathlib.Core.Path.{refl}
 use borrow.Author.Needs.{needs}
 use Rattle.store.proofs.records.set_captured.Statement.{statement}
@@ -11,7 +11,7 @@ slice-read-r : tie.Need-slice-read-r
 slice-read-r c = search needs
 
 with-captured-requires : tie.Need-with-captured-requires
-with-captured-requires c κs = search needs
+with-captured-requires c κs = tt
 
 mul-binds : tie.Need-mul-binds
 mul-binds c = search needs

@@ -1,0 +1,4 @@
+pub mod Fields
+pub mod Records
+pub mod Buffers
+pub mod Laws

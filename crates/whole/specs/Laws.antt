@@ -1,3 +1,0 @@
--- Proofs.
-pub mod Reading
-pub mod Saying

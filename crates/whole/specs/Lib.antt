@@ -1,3 +1,0 @@
-pub mod Said
-pub mod Laws
-pub mod Whole
