@@ -12,4 +12,3 @@ pub mod Named
 pub mod Shows
 pub mod Saying
 pub mod Captured
-pub mod Least

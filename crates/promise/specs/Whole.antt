@@ -1,7 +1,6 @@
 -- The second part of what `resolve` promises, off its contract `Resolves bs b a b′`: what a reader of Theorems could still ask. The words are in Said; the proofs stand in Laws.
---     Names and bindings     T1-name, T1-local, T1-module, T1-params
+--     bindings               T1-local, T1-module, T1-params
 --     slots and copies       filled-once, stops, T2-means
---     schemes of copies      T3-tree, T3-met
 use Prim.Native.Nat.{ℕ, _<_, _≤_}
 use mathlib.Core.Path.{_≡_, sym, ap, _∙_, subst}
 use mathlib.Core.List.{List}
@@ -13,8 +12,6 @@ use Rattle.lexical.specs.Module.{File}
 use Rattle.lexical.specs.Meaning.{Around, declared, scopesOf}
 use Rattle.lexical.specs.State.{Copy}
 use Rattle.lexical.specs.Third.{resolved}
-use Rattle.lexical.specs.Schemes.{copiesInto, pairs}
-use Rattle.lexical.specs.Labels.{Labelled, ServesTree}
 use Rattle.lexical.specs.Whole as lexical
 use Rattle.nodefile.specs.Layout.{nodeCount, nodesOf}
 use Rattle.nodefile.specs.Reads.{Reads}
@@ -26,13 +23,12 @@ use Rattle.answer.specs.Buffers.{Buffers}
 use Rattle.scope.specs.Answer.{Given, Resolves}
 use Rattle.scope.specs.Ready.{Ready}
 use Rattle.promise.specs.Shown.{nameOf, sourceOf, localOf, nodesAround}
-use Rattle.scope.specs.Laws.Readies.{ready-scoped, ready-distinct, ready-length}
-use Rattle.promise.specs.Laws.Records.{copies-into}
+use Rattle.scope.specs.Laws.Readies.{ready-scoped, ready-length}
 use Rattle.promise.specs.Laws.Sites.{ident-event}
 use Rattle.promise.specs.Laws.Zero.{zero-accepted, zero-ready, zero-slots}
 use Rattle.promise.specs.Said.{paramsOf, copiesShown, NameSaid, ModuleSaid, StopsShown, SlotSaid}
-use Rattle.promise.specs.Laws.Shows.{copy-shown, pairs-shown, params-shown}
-use Rattle.promise.specs.Laws.Saying.{name-said, local-said, module-said, stops-shown, slot-said}
+use Rattle.promise.specs.Laws.Shows.{copy-shown, params-shown}
+use Rattle.promise.specs.Laws.Saying.{local-said, module-said, stops-shown, slot-said}
 
 -- An accepted file, the tree that its nodes hold, and the file that the bytes stand for with it.
 module _ {bs : List ℕ} {b b′ : Buffers} {a : Answer} (r : Resolves bs b a b′) (z : a .number ≡ 0) (root : Forest) (t : Reads (nodesOf bs) 0 root) where
@@ -47,10 +43,6 @@ module _ {bs : List ℕ} {b b′ : Buffers} {a : Answer} (r : Resolves bs b a b�
 
   given : Given F (nodeCount bs) b a b′
   given = r .given z root t
-
-  -- Every Name of the node list: the nodes around it say which block it belongs to. Its record has class 1 in the module's block and class 2 in any other, and the slot and the number of the binding that its block makes of its name.
-  pub T1-name : (x : ℕ) → x < nodeCount bs → kindAt (nodesOf bs) x ≡ 8 → NameSaid F a b′ x (valueAt (nodesOf bs) x)
-  T1-name = name-said ready few given
 
   -- Every local is the binding of the Name that declares it, so all that is said of a Name's binding is said of it.
   pub T1-local : (k : ℕ) → k < a .bindings → localOf b′ k ≡ 1 → (s : NameSaid F a b′ (sourceOf b′ k) (nameOf b′ k)) × (s .binding ≡ k)
@@ -82,11 +74,3 @@ module _ {bs : List ℕ} {b b′ : Buffers} {a : Answer} (r : Resolves bs b a b�
       let l = ident-event F (ready-scoped ready) (nodesOf bs) t x (omega (arith, ready-length ready)) k in
       let y : l .up ≡ up = let w : some (l .up) ≡ some up = sym (l .above) ∙ e in cc in
       subst (λ (u : List Around). SlotSaid a b′ (record { node = x; name = valueAt (nodesOf bs) x; above = u }) o d) y (slot-said ready few given x (valueAt (nodesOf bs) x) l o d (rw y m))
-
-  -- T3, by the tree alone: any scheme of copies that has every local at hand where an Ident means it has in each scope at least as many copies as the records have;
-  pub T3-tree : (S : Labelled) → ServesTree F S → (s : ℕ) → copiesInto s (copiesShown a b′) ≤ length (S .copies s)
-  T3-tree S h s = omega (arith, copies-into ready few given s, lexical.T3-tree F (ready-scoped ready) (ready-distinct ready) S h s)
-
-  -- and the records are such a scheme, pair for pair.
-  pub T3-met : (S : Labelled) × ServesTree F S × ((s : ℕ) → S .copies s ≡ pairs s (copiesShown a b′))
-  T3-met = let (S, h, e) = lexical.T3-met F (ready-scoped ready) in (S, h, λ s. e s ∙ sym (pairs-shown ready few given s))
