@@ -4,7 +4,7 @@ use mathlib.Core.Logic.{_⊎_, inl, inr}
 use mathlib.Core.List.{List, [], _∷_, _++_, map}
 use mathlib.Core.Bool.{Bool, true, false, cond}
 use mathlib.Core.Option.{Option, none, some}
-use Prim.Native.Nat.{_≤_, ℕ, zero, suc, _<_}
+use Prim.Native.Nat.{_≤_, ℕ, zero, suc, _+_, _<_}
 use native.Mathlib.Omega.{arith}
 use lib.ListN.{length, getElem?}
 use Rattle.lexical.specs.Lists.{first, mapO, none-some, Tested, was, wasnt, tested, Opened, absent, present, opened}
@@ -39,6 +39,16 @@ at-snoc (x ∷ xs) y (suc i) a e = go (at-snoc xs y i a e)
     go (inl q) = inl q
     go (inr q) = inr (ap suc (q .0), q .1)
 
+-- an element of two lists, one behind the other
+pub at-either : {A : Type 0} (xs ys : List A) (i : ℕ) (a : A) → getElem? (xs ++ ys) i ≡ some a → (getElem? xs i ≡ some a) ⊎ ((k : ℕ) × (getElem? ys k ≡ some a))
+at-either [] ys i a e = inr (i, e)
+at-either (x ∷ xs) ys zero a e = inl e
+at-either (x ∷ xs) ys (suc i) a e = at-either xs ys i a e
+
+pub at-behind : {A : Type 0} (xs ys : List A) (k : ℕ) → getElem? (xs ++ ys) (length xs + k) ≡ getElem? ys k
+at-behind [] ys k = let e : 0 + k ≡ k = omega arith in ap (getElem? ys) e
+at-behind (x ∷ xs) ys k = let e : suc (length xs) + k ≡ suc (length xs + k) = omega arith in ap (getElem? (x ∷ (xs ++ ys))) e ∙ at-behind xs ys k
+
 -- what holds of every element, of some element
 abbrev pub All : {A : Type 0} → (A → Type 0) → List A → Type 0
 All {A = A} P xs = (j : ℕ) (x : A) → getElem? xs j ≡ some x → P x
@@ -64,8 +74,15 @@ pub all-map : {A B : Type 0} (P : B → Type 0) (f : A → B) (xs : List A) → 
 all-map P f [] h = all-none P
 all-map P f (x ∷ xs) h = all-cons P (f x) (map f xs) (h zero x refl) (all-map P f xs (λ j y e. h (suc j) y e))
 
+pub all-to : {A : Type 0} (P Q : A → Type 0) (xs : List A) → ((a : A) → P a → Q a) → All P xs → All Q xs
+all-to P Q xs h p j x e = h x (p j x e)
+
 pub some-left : {A : Type 0} (P : A → Type 0) (xs ys : List A) → Some P xs → Some P (xs ++ ys)
 some-left P xs ys (j, x, e, p) = (j, x, at-append xs ys j x e, p)
+
+pub some-right : {A : Type 0} (P : A → Type 0) (xs ys : List A) → Some P ys → Some P (xs ++ ys)
+some-right P [] ys h = h
+some-right P (x ∷ xs) ys h = let r = some-right P xs ys h in (suc (r .0), r .1, r .2, r .3)
 
 pub some-end : {A : Type 0} (P : A → Type 0) (xs : List A) (y : A) → P y → Some P (xs ++ (y ∷ []))
 some-end P xs y p = (length xs, y, at-end xs y, p)

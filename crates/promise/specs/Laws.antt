@@ -7,5 +7,6 @@ pub mod Narrow
 pub mod Records
 pub mod Told
 pub mod Named
+pub mod Shows
+pub mod Saying
 pub mod Captured
-pub mod Least

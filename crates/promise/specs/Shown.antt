@@ -1,9 +1,9 @@
 -- The words of the theorems on bytes: what an answer's buffers, read field by field (document 01, "Answer buffers"), say of an Ident, of a Name, of a binding. Read with Theorems.
-use Prim.Native.Nat.{ℕ, _+_, _<_}
+use Prim.Native.Nat.{ℕ, _<_}
 use mathlib.Core.Path.{_≡_}
 use mathlib.Core.Logic.{_↔_}
 use mathlib.Core.Bool.{true}
-use mathlib.Core.List.{List, [], _∷_, _++_, map, reverse}
+use mathlib.Core.List.{List, [], _∷_, map, reverse}
 use mathlib.Core.Option.{Option, some}
 use lib.ListN.{getD, getElem?, take}
 use Rattle.bits.specs.Pack.{values, unpack}
@@ -13,12 +13,8 @@ use Rattle.lexical.specs.Tree.{plain}
 use Rattle.lexical.specs.Binders.{collect, unmarked}
 use Rattle.lexical.specs.Module.{File, entryVar, module′, global, missing, outerOf}
 use Rattle.lexical.specs.Meaning.{Around, Site, Meaning, local, refused, outside, meaning, declares, declared, scopesOf}
-use Rattle.lexical.specs.Order.{fnBlocks, blocks, allNames}
-use Rattle.lexical.specs.State.{Binding}
-use Rattle.lexical.specs.Third.{resolved}
 use Rattle.lexical.specs.Records.{Records}
-use Rattle.lexical.specs.Schemes.{Scheme, AtHand}
-use Rattle.lexical.specs.Claims.{ancestors, stepsOf, sitesOf, source, moduleNames, NotModule, NotGlobal, Across, Inside}
+use Rattle.lexical.specs.Claims.{ancestors, sitesOf, source, NotModule, NotGlobal, Across, Inside}
 use Rattle.follow.specs.Place.{followed, placeOf}
 use Rattle.answer.specs.declared.Answer.{Answer}
 use Rattle.answer.specs.Buffers.{Buffers}
@@ -108,29 +104,14 @@ pub record Told (F : File) (a : Answer) (b : Buffers) (x n : ℕ) : Type 0 where
   pub above : nodesAround F x ≡ some up
   pub shown : let s : Site = record { node = x; name = n; above = up } in Shown F a b s (meaning (outerOf F) s)
 
--- ---- T1: a Name, a binding
-
--- the Names of a file, each with the first Name of its block that declares the same (65,535 where a module entry has the name): the module's Names, the functions' in node order, the comprehensions' in order of resolving
-abbrev pub namesOf : File → List (ℕ × Option ℕ)
-namesOf F = (moduleNames F ++ allNames (fnBlocks (F .names) (F .root))) ++ allNames (blocks (stepsOf F))
-
--- a Name, by its node and name: its binding is the one of that name which the first Name of its block declares, and its record has that binding's slot
-pub record NameShown (F : File) (a : Answer) (b : Buffers) (x n : ℕ) : Type 0 where
-  pub declared-by : ℕ
-  pub place : ℕ
-  pub told : getElem? (namesOf F) place ≡ some (x, some declared-by)
-  pub local : ℕ
-  pub slot : ℕ
-  pub binding : ℕ
-  pub answered : nodeFields b x ≡ (local + 1) ∷ slot ∷ binding ∷ []
-  pub shown : BindingShown a b binding n declared-by local slot
+-- ---- T1: a binding
 
 -- captured: a local, if some Ident means it from another scope than its own; a module name, if some Ident inside a function means it
 pub record CapturedShown (F : File) (b : Buffers) (k : ℕ) : Type 0 where
   pub of-local : localOf b k ≡ 1 → (capturedOf b k ≡ 1) ↔ Some (λ (s : Site). (o : ℕ) × Across o (sourceOf b k) s) (sitesOf F)
   pub of-module : localOf b k ≡ 0 → (capturedOf b k ≡ 1) ↔ Some (Inside (outerOf F) k) (sitesOf F)
 
--- ---- T2, T3
+-- ---- T2
 
 -- an Ident of name n among the nodes `up`, answered by slot k and binding i: the local that it means, and where the copies lead from the slot
 pub record Homeward (a : Answer) (b : Buffers) (n : ℕ) (up : List Around) (k i : ℕ) : Type 0 where
@@ -139,12 +120,6 @@ pub record Homeward (a : Answer) (b : Buffers) (n : ℕ) (up : List Around) (k i
   pub means : declared n up ≡ some (scope, name)
   pub source-is : sourceOf b i ≡ name
   pub home : followed (copyRecords a b) (reverse (scopesOf up)) k ≡ placeOf (scope, slotOf b i)
-
--- a scheme of copies has every local at hand where an Ident means it, refused in a type or not
-abbrev pub ServesAll : File → Scheme → Type 0
-ServesAll F S = (j : ℕ) (s : Site) → getElem? (sitesOf F) j ≡ some s
-    → (i : ℕ) (x : Binding) → getElem? (resolved F .made) i ≡ some x → x .local ≡ true → declared (s .name) (s .above) ≡ some (x .owner, x .var .source)
-    → (k : ℕ) × AtHand S (scopesOf (s .above)) k x
 
 -- ---- reading back
 

@@ -1,4 +1,4 @@
--- What `resolve` promises of any bytes bs and any buffers b, off its contract `Resolves bs b a b′`: a is the answer, b′ the buffers afterwards. The words are in Shown; the proofs stand in Laws.
+-- What `resolve` promises of any bytes bs and any buffers b, off its contract `Resolves bs b a b′`: a is the answer, b′ the buffers afterwards. The words are in Shown and Said; the second part is Whole; the proofs stand in Laws.
 --     demand 1   none-true, number-smallest, resolves-one                          (that every refusal is all zeros is a clause of `Resolves`)
 --     demand 2   T1, T1-errors, T1-names, T1-others, T1-captured, reads-back       each node's record, each error and each binding against the definition of what a name means
 --     demand 3   T2, T3, T3-met                                                    the copies lead from an answer to the variable, and no scheme copies less
@@ -16,19 +16,21 @@ use Rattle.lexical.specs.Meaning.{Around}
 use Rattle.lexical.specs.Third.{resolved}
 use Rattle.lexical.specs.Records.{records}
 use Rattle.lexical.specs.Claims.{sitesOf, told, toldErrors}
-use Rattle.lexical.specs.Schemes.{Scheme, copiesInto, ours}
+use Rattle.lexical.specs.Schemes.{copiesInto, pairs}
+use Rattle.lexical.specs.Labels.{Labelled, ServesTree}
 use Rattle.lexical.specs.Theorems as lexical
+use Rattle.lexical.specs.Whole as whole
 use Rattle.nodefile.specs.Layout.{nodeCount, nodesOf}
 use Rattle.nodefile.specs.Reads.{Reads}
 use Rattle.nodefile.specs.FileOf.{fileOf}
 use Rattle.nodefile.specs.Listed.{kindAt, valueAt}
-use Rattle.follow.specs.Place.{copiesOf}
 use Rattle.answer.specs.declared.Answer.{Answer}
 use Rattle.answer.specs.Buffers.{Buffers, Front}
 use Rattle.answer.specs.Records.{pairOf}
 use Rattle.scope.specs.Answer.{resolving, Given, Resolves}
 use Rattle.scope.specs.Ready.{Ready}
-use Rattle.promise.specs.Shown.{nodeFields, copyRecords, nodesAround, Told, NameShown, CapturedShown, Homeward, ServesAll, lists, AllBack}
+use Rattle.promise.specs.Shown.{nodeFields, nodesAround, Told, CapturedShown, Homeward, lists, AllBack}
+use Rattle.promise.specs.Said.{copiesShown, NameSaid}
 use Rattle.scope.specs.Laws.Accepts.{judged-tree}
 use Rattle.scope.specs.Laws.Readies.{ready-scoped, ready-distinct, ready-length}
 use Rattle.promise.specs.Laws.Sites.{ident-event}
@@ -36,9 +38,10 @@ use Rattle.scope.specs.Laws.Zero.{zero-accepted, zero-ready, zero-slots}
 use Rattle.scope.specs.Laws.One.{same-answer}
 use Rattle.promise.specs.Laws.Records.{back, copies-into}
 use Rattle.promise.specs.Laws.Told.{ident-shown, homeward}
-use Rattle.promise.specs.Laws.Named.{name-shown, other-empty}
+use Rattle.promise.specs.Laws.Named.{other-empty}
+use Rattle.promise.specs.Laws.Shows.{pairs-shown}
+use Rattle.promise.specs.Laws.Saying.{name-said}
 use Rattle.promise.specs.Laws.Captured.{captured-shown}
-use Rattle.promise.specs.Laws.Least.{serves-lookups, serves-idents}
 
 -- A file and buffers of which no condition is true get 0: nothing is refused without its cause.
 pub none-true : {bs : List ℕ} {b b′ : Buffers} {a : Answer} → Resolves bs b a b′ → NoneHolds (resolving bs b) → a .number ≡ 0
@@ -83,9 +86,9 @@ module _ {bs : List ℕ} {b b′ : Buffers} {a : Answer} (r : Resolves bs b a b�
     unfolding records
     T1-errors = subst (λ (xs : List (List ℕ)). Front (b′ .errors) (length (b .errors)) (map pairOf xs)) (lexical.T1-errors F (ready-scoped ready)) (given .errors-hold)
 
-    -- Every Name of the node list: its record has its binding's slot and number, the binding that the first Name of its block with the same name declares.
-    pub T1-names : (x : ℕ) → x < nodeCount bs → kindAt (nodesOf bs) x ≡ 8 → NameShown F a b′ x (valueAt (nodesOf bs) x)
-    T1-names = name-shown ready few given
+    -- Every Name of the node list: the nodes around it say which block it belongs to. Its record has class 1 in the module's block and class 2 in any other, and the slot and the number of the binding that its block makes of its name.
+    pub T1-names : (x : ℕ) → x < nodeCount bs → kindAt (nodesOf bs) x ≡ 8 → NameSaid F a b′ x (valueAt (nodesOf bs) x)
+    T1-names = name-said ready few given
 
     -- Every other node's record is 0.
     pub T1-others : (x : ℕ) → x < nodeCount bs → (kindAt (nodesOf bs) x ≡ 8 → ⊥) → (kindAt (nodesOf bs) x ≡ 11 → ⊥) → getD (b′ .nodes) x 0 ≡ 0
@@ -104,14 +107,10 @@ module _ {bs : List ℕ} {b b′ : Buffers} {a : Answer} (r : Resolves bs b a b�
     T2 x h n k i e up q = let p = T1 x h n in let y : p .up ≡ up = let w : some (p .up) ≡ some up = sym (p .above) ∙ q in cc in
         subst (λ (u : List Around). Homeward a b′ (valueAt (nodesOf bs) x) u k i) y (homeward F a b′ (record { node = x; name = valueAt (nodesOf bs) x; above = p .up }) k i e (p .shown))
 
-    -- T3. Any scheme of copies that has every local at hand where an Ident means it has in each scope at least as many copies as the records have;
-    pub T3 : (S : Scheme) → ServesAll F S → (s : ℕ) → copiesInto s (copiesOf (copyRecords a b′)) ≤ length (S .copies s)
-    T3 S h s = omega (arith, copies-into ready few given s, lexical.T3 F (ready-scoped ready) S (serves-lookups F (ready-scoped ready) S h) s)
+    -- T3. Any scheme of copies that has every local at hand where an Ident means it, locals told by their scope and Name, has in each scope at least as many copies as the records have;
+    pub T3 : (S : Labelled) → ServesTree F S → (s : ℕ) → copiesInto s (copiesShown a b′) ≤ length (S .copies s)
+    T3 S h s = omega (arith, copies-into ready few given s, whole.T3-tree F (ready-scoped ready) (ready-distinct ready) S h s)
 
-    -- and such a scheme has just these.
-    pub T3-met : (S : Scheme) × ServesAll F S × ((s : ℕ) → length (S .copies s) ≡ copiesInto s (copiesOf (copyRecords a b′)))
-    T3-met = (
-      ours (resolved F),
-      serves-idents F (ready-scoped ready) (ours (resolved F)) (ready-distinct ready) (lexical.T3-ours F (ready-scoped ready)),
-      λ s. lexical.T3-count F (ready-scoped ready) s ∙ sym (copies-into ready few given s),
-    )
+    -- and the records are such a scheme, pair for pair.
+    pub T3-met : (S : Labelled) × ServesTree F S × ((s : ℕ) → S .copies s ≡ pairs s (copiesShown a b′))
+    T3-met = let (S, h, e) = whole.T3-met F (ready-scoped ready) in (S, h, λ s. e s ∙ sym (pairs-shown ready few given s))

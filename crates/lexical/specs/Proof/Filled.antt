@@ -124,7 +124,7 @@ module _ (F : File) (ok : Scoped F) where
   stops (a ∷ up) k = deeper-stops (isFn (a .way) && reach (a .way) (a .first) (a .last)) (a .scope) (scopesOf up) (stops up) k
 
   -- the slot of a local that an Ident means
-  slot-of : (s : Site) (e : Event) (o d : ℕ) → view e ≡ told (outerOf F) s → LedFound (resolved F) (e .name) (e .scopes) (e .found) → declared (s .name) (s .above) ≡ some (o, d) → SlotFor F s o d
+  pub slot-of : (s : Site) (e : Event) (o d : ℕ) → view e ≡ told (outerOf F) s → LedFound (resolved F) (e .name) (e .scopes) (e .found) → declared (s .name) (s .above) ≡ some (o, d) → SlotFor F s o d
   unfolding seen meaning
   slot-of s e o d q l m = go (e .found) l (meaning-of F e s q)
     where

@@ -8,7 +8,7 @@ use Prim.Native.Nat.{ℕ, zero, suc, _+_, _≤_}
 use native.Mathlib.Omega.{arith}
 use lib.ListN.{length, getElem?}
 use Rattle.lexical.specs.Lists.{first, mapO, either, eqb-self, none-some}
-use Rattle.lexical.specs.Places.{In, at-in, map-at, Distinct}
+use Rattle.lexical.specs.Places.{In, at-in, at-either, map-at, Distinct}
 use Rattle.lexical.specs.Sums.{total, one}
 use Rattle.lexical.specs.Tree.{Forest, isName, pick, when, namesIn, nodesIn}
 use Rattle.lexical.specs.Table.{Tabled}
@@ -29,7 +29,7 @@ use Rattle.lexical.specs.Proof.Last.{last}
 use Rattle.lexical.specs.Proof.Listed.{listed-apart, listed-map}
 use Rattle.lexical.specs.Proof.Makes.{makes-module}
 use Rattle.lexical.specs.Proof.Tabled.{tabled-tidy}
-use Rattle.lexical.specs.Proof.Titles.{RowTold, titled-so, module-var, first-own, at-either}
+use Rattle.lexical.specs.Proof.Titles.{RowTold, titled-so, module-var, first-own}
 
 -- a Name stands once in the tree
 named-node : (f : Forest) (j x n : ℕ) → getElem? (namedIn f) j ≡ some (x, n) → In x (namesIn f)

@@ -6,7 +6,7 @@ use mathlib.Core.Bool.{Bool, true, false, _&&_, _||_}
 use Prim.Native.Nat.{ℕ, _≤_}
 use native.Mathlib.Omega.{arith}
 use Rattle.lexical.specs.Lists.{If}
-use Rattle.lexical.specs.Places.{All, all-none, Distinct, distinct-left, distinct-right}
+use Rattle.lexical.specs.Places.{All, all-none, all-to, Distinct, distinct-left, distinct-right}
 use Rattle.lexical.specs.Tree.{isFn, isCompr, when, listed, Forest, nil, node, empty, after, Way, plain, look, fn, compr, clause, type, way, top, nodesIn}
 use Rattle.lexical.specs.Table.{row, allowed, kinds, Tabled, Tidy}
 use Rattle.lexical.specs.Binders.{Names, Target, collect, unmarked, looping, targets}
@@ -15,7 +15,7 @@ use Rattle.lexical.specs.Blocks.{Block, ofScope}
 use Rattle.lexical.specs.Proof.Induct.{innerScope}
 use Rattle.lexical.specs.Proof.Kinds.{Sort, def6, name8, ident11, lambda12, compr13, other14, clause15, type18, simple, past, sort}
 use Rattle.lexical.specs.Proof.Parameters.{among}
-use Rattle.lexical.specs.Proof.Spots.{Spot, from-kids, from-rest, all-to, blockBelow, NoName, collected}
+use Rattle.lexical.specs.Proof.Spots.{Spot, from-kids, from-rest, blockBelow, NoName, collected}
 use Rattle.lexical.specs.Proof.Tabled.{at-kind, tabled-tidy}
 
 -- a Lambda does not begin with a Name

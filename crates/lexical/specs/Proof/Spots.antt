@@ -4,10 +4,10 @@ use mathlib.Core.Logic.{inl, inr}
 use mathlib.Core.List.{List, [], _∷_, _++_}
 use mathlib.Core.Bool.{Bool, true, false, cond, _&&_, _||_}
 use mathlib.Core.Option.{some}
-use Prim.Native.Nat.{ℕ, suc}
+use Prim.Native.Nat.{ℕ}
 use native.Mathlib.Omega.{arith}
 use Rattle.lexical.specs.Lists.{orElse, eqb-self, eqb-not, Tested, was, wasnt, tested}
-use Rattle.lexical.specs.Places.{All, Some, all-none, all-cons, all-append, some-left, In, Distinct, in-left, in-right, distinct-left, distinct-right, disjoint}
+use Rattle.lexical.specs.Places.{All, Some, all-none, all-cons, all-append, all-to, some-left, some-right, In, Distinct, in-left, in-right, distinct-left, distinct-right, disjoint}
 use Rattle.lexical.specs.Tree.{isFn, isCompr, isName, when, listed, Forest, nil, node, empty, Way, plain, look, fn, compr, clause, type, way, Pick, through, shut, head, name, loop, load, param, pick, nodesIn}
 use Rattle.lexical.specs.Table.{FirstName, TidyHere, Tidy}
 use Rattle.lexical.specs.Binders.{Names, Marks, Target, target, headTarget, gather, collect, targets}
@@ -24,10 +24,6 @@ pub record Spot (N : Names) (f : Forest) (w : Way) (s : ℕ) (ts : List Target) 
   pub above : List Around
   pub around-it : ancestors N (t .node) f w s ts b up ≡ some above
   pub block-is : blockOf above ≡ k
-
-some-right : {A : Type 0} (P : A → Type 0) (xs ys : List A) → Some P ys → Some P (xs ++ ys)
-some-right P [] ys h = h
-some-right P (x ∷ xs) ys h = let r = some-right P xs ys h in (suc (r .0), r .1, r .2, r .3)
 
 -- seen from the children of the node that f's nodes stand below, from the siblings before them
 module _ (N : Names) (at k v : ℕ) (kids rest : Forest) (w : Way) (s : ℕ) (ts : List Target) (b : Bool) (up : List Around) (d : Distinct (nodesIn (node at k v kids rest))) where
@@ -70,9 +66,6 @@ module _ (N : Names) (at k v : ℕ) (kids rest : Forest) (w : Way) (s : ℕ) (ts
     around-it = rw (eqb-self at) refl;
     block-is = e;
   }
-
-pub all-to : {A : Type 0} (P Q : A → Type 0) (xs : List A) → ((a : A) → P a → Q a) → All P xs → All Q xs
-all-to P Q xs h p j x e = h x (p j x e)
 
 -- the block that a node's children belong to, where they are no Def's own name
 unfoldable pub blockBelow : Way → ℕ → List Target → List Around → Block

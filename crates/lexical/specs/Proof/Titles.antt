@@ -9,7 +9,7 @@ use native.Mathlib.Omega.{arith}
 use lib.Dec.{eqb}
 use lib.ListN.{length, getElem?}
 use Rattle.lexical.specs.Lists.{orElse, first, mapO, mapO-cond, eqb-self, eqb-not, eqb-true, none-some, Opened, absent, present, opened}
-use Rattle.lexical.specs.Places.{All, all-none, all-cons, all-append, all-map, at-append, map-at, first-at, mapO-some, In, Distinct}
+use Rattle.lexical.specs.Places.{All, all-none, all-cons, all-append, all-map, at-append, at-either, at-behind, map-at, first-at, mapO-some, In, Distinct}
 use Rattle.lexical.specs.Tree.{isFn, isCompr, plain, nodesIn}
 use Rattle.lexical.specs.Table.{Tabled}
 use Rattle.lexical.specs.Binders.{Target, Var, unmarked, merge}
@@ -76,15 +76,6 @@ first-own (x ∷ bs) d (suc j) b e = rw (eqb-not (x .var .name) (b .var .name) (
     named-in [] j b e = absurd (none-some refl e)
     named-in (x ∷ bs) zero b e = let z : x ≡ b = cc in inl (sym (ap (λ (y : Binding). y .var .name) z))
     named-in (x ∷ bs) (suc j) b e = inr (named-in bs j b e)
-
-pub at-either : {A : Type 0} (xs ys : List A) (i : ℕ) (a : A) → getElem? (xs ++ ys) i ≡ some a → (getElem? xs i ≡ some a) ⊎ ((k : ℕ) × (getElem? ys k ≡ some a))
-at-either [] ys i a e = inr (i, e)
-at-either (x ∷ xs) ys zero a e = inl e
-at-either (x ∷ xs) ys (suc i) a e = at-either xs ys i a e
-
-at-behind : {A : Type 0} (xs ys : List A) (k : ℕ) → getElem? (xs ++ ys) (length xs + k) ≡ getElem? ys k
-at-behind [] ys k = let e : 0 + k ≡ k = omega arith in ap (getElem? ys) e
-at-behind (x ∷ xs) ys k = let e : suc (length xs) + k ≡ suc (length xs + k) = omega arith in ap (getElem? (x ∷ (xs ++ ys))) e ∙ at-behind xs ys k
 
 module _ (F : File) where
   -- a row: a target that stands in the tree, and the binding that its block makes of its name

@@ -26,7 +26,7 @@ use Rattle.answer.specs.Records.{copyWidths, copyOf, copyScope, copyParent, cop
 use Rattle.answer.specs.Laws.{part-packed}
 
 -- a copy without its binding, which its record does not tell
-abbrev bare : Copy → Copy
+abbrev pub bare : Copy → Copy
 bare c = record { scope = c .scope; parent = c .parent; child = c .child; id = 0 }
 
 abbrev pub CopyFits : Copy → Type 0

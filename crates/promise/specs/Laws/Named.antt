@@ -4,16 +4,15 @@ use Prim.Native.Nat.{ℕ, _+_, _<_, _≤_}
 use mathlib.Core.Path.{_≡_, refl, sym, ap, _∙_, subst}
 use mathlib.Core.Bool.{Bool, true, false, cond, true≢false}
 use mathlib.Core.List.{List, [], _∷_, map}
-use mathlib.Core.Option.{Option, some}
+use mathlib.Core.Option.{some}
 use native.Mathlib.Omega.{arith}
 use lib.ListN.{length, getD, getElem?}
-use Rattle.lexical.specs.Lists.{mapO}
 use Rattle.lexical.specs.Places.{In, at-append, map-at}
 use Rattle.lexical.specs.Tree.{Forest, isName, pick, isLook, way, namesIn, identsIn}
 use Rattle.lexical.specs.Module.{File}
 use Rattle.lexical.specs.Third.{resolved}
 use Rattle.lexical.specs.Records as rec
-use Rattle.lexical.specs.Claims.{nameView, NameRow}
+use Rattle.lexical.specs.Claims.{NameRow}
 use Rattle.lexical.specs.Theorems as lexical
 use Rattle.lexical.specs.Proof.Kinds.{no-look, no-name}
 use Rattle.nodefile.specs.Layout.{nodeCount, nodesOf}
@@ -24,13 +23,22 @@ use Rattle.answer.specs.declared.Answer.{Answer}
 use Rattle.answer.specs.Buffers.{Buffers}
 use Rattle.scope.specs.Answer.{Given}
 use Rattle.scope.specs.Ready.{Ready}
-use Rattle.promise.specs.Shown.{nodeFields, NameShown}
+use Rattle.promise.specs.Shown.{nodeFields, BindingShown}
 use Rattle.scope.specs.Laws.Readies.{ready-scoped, ready-headed, ready-distinct, ready-length}
 use Rattle.scope.specs.Laws.Rows.{rowsOf, answer-other}
 use Rattle.scope.specs.Laws.Targets.{each-spots}
 use Rattle.scope.specs.Laws.Fitting.{Fits, resolved-fit}
 use Rattle.promise.specs.Laws.Events.{name-bounds}
 use Rattle.promise.specs.Laws.Records.{node-at, node-read, bound-so}
+
+-- a Name's record: the slot and the number of a binding of its name
+pub record NameShown (a : Answer) (b : Buffers) (x n : ℕ) : Type 0 where
+  pub declared-by : ℕ
+  pub local : ℕ
+  pub slot : ℕ
+  pub binding : ℕ
+  pub answered : nodeFields b x ≡ (local + 1) ∷ slot ∷ binding ∷ []
+  pub shown : BindingShown a b binding n declared-by local slot
 
 module _ {bs : List ℕ} {root : Forest} (q : Ready bs root) (few : length (resolved (fileOf bs root) .slots) ≤ 4096) {b b′ : Buffers} {a : Answer} (g : Given (fileOf bs root) (nodeCount bs) b a b′) where
   abbrev F : File
@@ -67,15 +75,9 @@ module _ {bs : List ℕ} {root : Forest} (q : Ready bs root) (few : length (reso
         let e : getElem? (rowsOf F) (r .place) ≡ some row = at-append (map rec.titleRow (resolved F .named)) (rec.answers (resolved F .made) (resolved F .log)) (r .place) row (map-at rec.titleRow (resolved F .named) (r .place) (r .row) (r .stands) ∙ ap some title) in
         node-read q few g (r .place) row e h (rw title at (name-bounds q few (r .place) (r .row) (r .stands)))
 
-    viewed : nameView (r .row) ≡ (x, some (r .binding .var .source))
-    unfolding nameView mapO
-    viewed = rw (r .bound, r .of-node) refl
-
-    row-shown : NameShown F a b′ x (valueAt (nodesOf bs) x)
+    row-shown : NameShown a b′ x (valueAt (nodesOf bs) x)
     row-shown = record {
       declared-by = r .binding .var .source;
-      place = r .place;
-      told = subst (λ (l : List (ℕ × Option ℕ)). getElem? l (r .place) ≡ some (x, some (r .binding .var .source))) (lexical.T1-names F (ready-scoped q)) (map-at nameView (resolved F .named) (r .place) (r .row) (r .stands) ∙ ap some viewed);
       local = rec.bit (r .binding .local);
       slot = r .binding .slot;
       binding = r .binding .id;
@@ -86,7 +88,7 @@ module _ {bs : List ℕ} {root : Forest} (q : Ready bs root) (few : length (reso
         named : r .binding .var .name ≡ valueAt (nodesOf bs) x
         named = names-fit .named (r .place) (r .row) (r .stands) (r .binding) (r .bound) (omega (arith, r .of-node, q .nodes)) ∙ ap (valueAt (nodesOf bs)) (r .of-node)
 
-  pub name-shown : (x : ℕ) → x < nodeCount bs → kindAt (nodesOf bs) x ≡ 8 → NameShown F a b′ x (valueAt (nodesOf bs) x)
+  pub name-shown : (x : ℕ) → x < nodeCount bs → kindAt (nodesOf bs) x ≡ 8 → NameShown a b′ x (valueAt (nodesOf bs) x)
   unfolding namesIn isName pick
   name-shown x h k =
       let z : 0 + x ≡ x = omega arith in
