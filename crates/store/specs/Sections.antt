@@ -15,11 +15,36 @@ pub record Mem : Type 0 where
 abbrev pub mem : List ℕ → List ℕ → List ℕ → Mem
 mem binds w t = record { binds = binds; w = w; t = t }
 
--- how long they are
+-- how many of each there can be, and how far a half of a record's word and a slot's number reach
+abbrev pub manyNodes : ℕ
+manyNodes = 2048
+
+abbrev pub manyNames : ℕ
+manyNames = 1024
+
+abbrev pub manyBindings : ℕ
+manyBindings = 2304
+
+abbrev pub manySlots : ℕ
+manySlots = 4096
+
+abbrev pub manySlotNumbers : ℕ
+manySlotNumbers = 32768
+
+abbrev pub halfWord : ℕ
+halfWord = 65536
+
+-- how long the lists are
+abbrev pub wLength : ℕ
+wLength = 12544
+
+abbrev pub tLength : ℕ
+tLength = 20864
+
 pub record Long (m : Mem) : Type 0 where
-  pub binds : 2304 ≤ length (m .binds)
-  pub w : length (m .w) ≡ 12544
-  pub t : length (m .t) ≡ 20864
+  pub binds : manyBindings ≤ length (m .binds)
+  pub w : length (m .w) ≡ wLength
+  pub t : length (m .t) ≡ tLength
 
 -- sections of w: the nodes' answers, the slots, the copies and the errors in order of making, and the scopes
 abbrev pub nodesAt : ℕ

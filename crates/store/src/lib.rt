@@ -1,8 +1,9 @@
-// The store of the walks: the bindings' records and the working lists, and every read and every store of them.
+// The store of the walks: the bindings' records and the working lists w and t, and every read and every store of them; `sections` says what stands where.
 // Each function here touches one section or two; what a step of the walks does to all of them is said and proved above.
 mod ids;
 mod meanings;
 mod records;
+pub mod sections;
 mod slots;
 mod wide;
 

@@ -5,142 +5,153 @@ ghost use Prim.Native.Nat.{_+_, _/_, _≤_, _<_};
 ghost use lib.ListN.{length, getD, set};
 ghost use lib.Dec.{eqb};
 ghost use Rattle.store.specs.Scoping.{Opening, Opened, Closing, Closed};
+ghost use Rattle.store.specs.Sections.{blockAt, firstAt, globAt, halfWord, hiddenAt, lastAt, manyBindings, manyNames, modAt, ownerAt, savedAt, shownAt, stackAt, tLength};
 use crate::records;
+use crate::sections::BLOCK;
+use crate::sections::FIRSTS;
+use crate::sections::GLOBALS;
+use crate::sections::HIDDEN;
+use crate::sections::LASTS;
+use crate::sections::LOADS_SHOWN;
+use crate::sections::MODULE;
+use crate::sections::OWNERS;
+use crate::sections::SAVED;
+use crate::sections::STACK;
 use crate::wide::wide;
 
 // The innermost local of a name, plus one.
 pub fn current(t: &[u16], name: usize) -> usize
-    requires { ⌜ (name < 1024) × (length (now t) ≡ 20864) ⌝ }
-    ensures { λ r. ⌜ (r ≡ getD (now (t .entry)) name 0) × (r < 65536) ⌝ }
+    requires { ⌜ (name < manyNames) × (length (now t) ≡ tLength) ⌝ }
+    ensures { λ r. ⌜ (r ≡ getD (now (t .entry)) name 0) × (r < halfWord) ⌝ }
 {
     wide(t[name])
 }
 
 // The module's binding of a name, plus one.
 pub fn module_binding(t: &[u16], name: usize) -> usize
-    requires { ⌜ (name < 1024) × (length (now t) ≡ 20864) ⌝ }
-    ensures { λ r. ⌜ (r ≡ getD (now (t .entry)) (1024 + name) 0) × (r < 65536) ⌝ }
+    requires { ⌜ (name < manyNames) × (length (now t) ≡ tLength) ⌝ }
+    ensures { λ r. ⌜ (r ≡ getD (now (t .entry)) (modAt + name) 0) × (r < halfWord) ⌝ }
 {
-    wide(t[1024 + name])
+    wide(t[MODULE + name])
 }
 
 // The global of a name, plus one.
 pub fn global(t: &[u16], name: usize) -> usize
-    requires { ⌜ (name < 1024) × (length (now t) ≡ 20864) ⌝ }
-    ensures { λ r. ⌜ (r ≡ getD (now (t .entry)) (2048 + name) 0) × (r < 65536) ⌝ }
+    requires { ⌜ (name < manyNames) × (length (now t) ≡ tLength) ⌝ }
+    ensures { λ r. ⌜ (r ≡ getD (now (t .entry)) (globAt + name) 0) × (r < halfWord) ⌝ }
 {
-    wide(t[2048 + name])
+    wide(t[GLOBALS + name])
 }
 
 pub fn hidden(t: &[u16], name: usize) -> bool
-    requires { ⌜ (name < 1024) × (length (now t) ≡ 20864) ⌝ }
-    ensures { λ r. ⌜ r ≡ eqb (getD (now (t .entry)) (3072 + name) 0) 1 ⌝ }
+    requires { ⌜ (name < manyNames) × (length (now t) ≡ tLength) ⌝ }
+    ensures { λ r. ⌜ r ≡ eqb (getD (now (t .entry)) (hiddenAt + name) 0) 1 ⌝ }
 {
-    t[3072 + name] == 1
+    t[HIDDEN + name] == 1
 }
 
 // Whether a name bound by Load is shown.
 pub fn load_shown(t: &[u16]) -> bool
-    requires { ⌜ length (now t) ≡ 20864 ⌝ }
-    ensures { λ r. ⌜ r ≡ eqb (getD (now (t .entry)) 20863 0) 1 ⌝ }
+    requires { ⌜ length (now t) ≡ tLength ⌝ }
+    ensures { λ r. ⌜ r ≡ eqb (getD (now (t .entry)) shownAt 0) 1 ⌝ }
 {
-    t[20863] == 1
+    t[LOADS_SHOWN] == 1
 }
 
 // Where a block that is collected has its names: the module's stay, those of the others are overwritten.
 fn base(local: bool) -> usize
-    ensures { λ r. ⌜ (r ≡ cond local 4096 1024) × (r ≤ 4096) ⌝ }
+    ensures { λ r. ⌜ (r ≡ cond local blockAt modAt) × (r ≤ blockAt) ⌝ }
 {
-    if local { 4096 } else { 1024 }
+    if local { BLOCK } else { MODULE }
 }
 
 // The binding that the block which is collected has for a name, plus one; where it has none, a number that is no larger than its first.
 pub fn known(t: &[u16], local: bool, name: usize) -> usize
-    requires { ⌜ (name < 1024) × (length (now t) ≡ 20864) ⌝ }
-    ensures { λ r. ⌜ (r ≡ getD (now (t .entry)) (cond local 4096 1024 + name) 0) × (r < 65536) ⌝ }
+    requires { ⌜ (name < manyNames) × (length (now t) ≡ tLength) ⌝ }
+    ensures { λ r. ⌜ (r ≡ getD (now (t .entry)) (cond local blockAt modAt + name) 0) × (r < halfWord) ⌝ }
 {
     wide(t[base(local) + name])
 }
 
 pub fn put_known(t: &mut [u16], local: bool, name: usize, id: usize)
-    requires { ⌜ (name < 1024) × (id < 2304) × (length (now t) ≡ 20864) ⌝ }
-    ensures { λ _. ⌜ now (t .exit) ≡ set (now (t .entry)) (cond local 4096 1024 + name) (id + 1) ⌝ }
+    requires { ⌜ (name < manyNames) × (id < manyBindings) × (length (now t) ≡ tLength) ⌝ }
+    ensures { λ _. ⌜ now (t .exit) ≡ set (now (t .entry)) (cond local blockAt modAt + name) (id + 1) ⌝ }
 {
     t[base(local) + name] = (id + 1) as u16;
 }
 
 pub fn put_owner(t: &mut [u16], id: usize, scope: usize)
-    requires { ⌜ (id < 2304) × (scope < 256) × (length (now t) ≡ 20864) ⌝ }
-    ensures { λ _. ⌜ now (t .exit) ≡ set (now (t .entry)) (7424 + id) scope ⌝ }
+    requires { ⌜ (id < manyBindings) × (scope < 256) × (length (now t) ≡ tLength) ⌝ }
+    ensures { λ _. ⌜ now (t .exit) ≡ set (now (t .entry)) (ownerAt + id) scope ⌝ }
 {
-    t[7424 + id] = scope as u16;
+    t[OWNERS + id] = scope as u16;
 }
 
 pub fn owner(t: &[u16], id: usize) -> usize
-    requires { ⌜ (id < 2304) × (length (now t) ≡ 20864) ⌝ }
-    ensures { λ r. ⌜ (r ≡ getD (now (t .entry)) (7424 + id) 0) × (r < 65536) ⌝ }
+    requires { ⌜ (id < manyBindings) × (length (now t) ≡ tLength) ⌝ }
+    ensures { λ r. ⌜ (r ≡ getD (now (t .entry)) (ownerAt + id) 0) × (r < halfWord) ⌝ }
 {
-    wide(t[7424 + id])
+    wide(t[OWNERS + id])
 }
 
 // A scope's first binding, and the one after its last.
 pub fn put_range(t: &mut [u16], scope: usize, lo: usize, hi: usize)
-    requires { ⌜ (scope < 256) × (lo ≤ 2304) × (hi ≤ 2304) × (length (now t) ≡ 20864) ⌝ }
-    ensures { λ _. ⌜ now (t .exit) ≡ set (set (now (t .entry)) (12032 + scope) lo) (12288 + scope) hi ⌝ }
+    requires { ⌜ (scope < 256) × (lo ≤ manyBindings) × (hi ≤ manyBindings) × (length (now t) ≡ tLength) ⌝ }
+    ensures { λ _. ⌜ now (t .exit) ≡ set (set (now (t .entry)) (firstAt + scope) lo) (lastAt + scope) hi ⌝ }
 {
-    t[12032 + scope] = lo as u16;
-    t[12288 + scope] = hi as u16;
+    t[FIRSTS + scope] = lo as u16;
+    t[LASTS + scope] = hi as u16;
 }
 
 pub fn first_of(t: &[u16], scope: usize) -> usize
-    requires { ⌜ (scope < 256) × (length (now t) ≡ 20864) ⌝ }
-    ensures { λ r. ⌜ (r ≡ getD (now (t .entry)) (12032 + scope) 0) × (r < 65536) ⌝ }
+    requires { ⌜ (scope < 256) × (length (now t) ≡ tLength) ⌝ }
+    ensures { λ r. ⌜ (r ≡ getD (now (t .entry)) (firstAt + scope) 0) × (r < halfWord) ⌝ }
 {
-    wide(t[12032 + scope])
+    wide(t[FIRSTS + scope])
 }
 
 pub fn last_of(t: &[u16], scope: usize) -> usize
-    requires { ⌜ (scope < 256) × (length (now t) ≡ 20864) ⌝ }
-    ensures { λ r. ⌜ (r ≡ getD (now (t .entry)) (12288 + scope) 0) × (r < 65536) ⌝ }
+    requires { ⌜ (scope < 256) × (length (now t) ≡ tLength) ⌝ }
+    ensures { λ r. ⌜ (r ≡ getD (now (t .entry)) (lastAt + scope) 0) × (r < halfWord) ⌝ }
 {
-    wide(t[12288 + scope])
+    wide(t[LASTS + scope])
 }
 
 pub fn put_scope(t: &mut [u16], level: usize, scope: usize)
-    requires { ⌜ (level < 128) × (scope < 256) × (length (now t) ≡ 20864) ⌝ }
-    ensures { λ _. ⌜ now (t .exit) ≡ set (now (t .entry)) (20736 + level) scope ⌝ }
+    requires { ⌜ (level < 128) × (scope < 256) × (length (now t) ≡ tLength) ⌝ }
+    ensures { λ _. ⌜ now (t .exit) ≡ set (now (t .entry)) (stackAt + level) scope ⌝ }
 {
-    t[20736 + level] = scope as u16;
+    t[STACK + level] = scope as u16;
 }
 
 pub fn scope_at_level(t: &[u16], level: usize) -> usize
-    requires { ⌜ (level < 128) × (length (now t) ≡ 20864) ⌝ }
-    ensures { λ r. ⌜ (r ≡ getD (now (t .entry)) (20736 + level) 0) × (r < 65536) ⌝ }
+    requires { ⌜ (level < 128) × (length (now t) ≡ tLength) ⌝ }
+    ensures { λ r. ⌜ (r ≡ getD (now (t .entry)) (stackAt + level) 0) × (r < halfWord) ⌝ }
 {
-    wide(t[20736 + level])
+    wide(t[STACK + level])
 }
 
 // A name means this binding from here on; what it meant is kept.
 fn push(t: &mut [u16], name: usize, id: usize)
-    requires { ⌜ (name < 1024) × (id < 2304) × (length (now t) ≡ 20864) ⌝ }
-    ensures { λ _. ⌜ now (t .exit) ≡ set (set (now (t .entry)) (5120 + id) (getD (now (t .entry)) name 0)) name (id + 1) ⌝ }
+    requires { ⌜ (name < manyNames) × (id < manyBindings) × (length (now t) ≡ tLength) ⌝ }
+    ensures { λ _. ⌜ now (t .exit) ≡ set (set (now (t .entry)) (savedAt + id) (getD (now (t .entry)) name 0)) name (id + 1) ⌝ }
 {
     let was = t[name];
-    t[5120 + id] = was;
+    t[SAVED + id] = was;
     t[name] = (id + 1) as u16;
 }
 
 // A name means again what it did before this binding.
 fn pop(t: &mut [u16], name: usize, id: usize)
-    requires { ⌜ (name < 1024) × (id < 2304) × (length (now t) ≡ 20864) ⌝ }
-    ensures { λ _. ⌜ now (t .exit) ≡ set (now (t .entry)) name (getD (now (t .entry)) (5120 + id) 0) ⌝ }
+    requires { ⌜ (name < manyNames) × (id < manyBindings) × (length (now t) ≡ tLength) ⌝ }
+    ensures { λ _. ⌜ now (t .exit) ≡ set (now (t .entry)) name (getD (now (t .entry)) (savedAt + id) 0) ⌝ }
 {
-    t[name] = t[5120 + id];
+    t[name] = t[SAVED + id];
 }
 
 // The names of bindings lo to hi mean these from here on: the last is pushed first, so that the first is innermost.
 pub fn scope_in(binds: &[u64], t: &mut [u16], lo: usize, hi: usize)
-    requires { ⌜ (2304 ≤ length (now binds)) × (length (now t) ≡ 20864) × Opening (now binds) (now t) lo hi ⌝ }
+    requires { ⌜ (manyBindings ≤ length (now binds)) × (length (now t) ≡ tLength) × Opening (now binds) (now t) lo hi ⌝ }
     ensures { λ _. ⌜ Opened (now (binds .entry)) (now (t .entry)) lo hi (now (t .exit)) ⌝ }
 {
     let mut k = hi;
@@ -152,7 +163,7 @@ pub fn scope_in(binds: &[u64], t: &mut [u16], lo: usize, hi: usize)
 
 // The names of bindings lo to hi mean again what they did before: the innermost goes first.
 pub fn unscope(binds: &[u64], t: &mut [u16], lo: usize, hi: usize)
-    requires { ⌜ (2304 ≤ length (now binds)) × (length (now t) ≡ 20864) × Closing (now binds) (now t) lo hi ⌝ }
+    requires { ⌜ (manyBindings ≤ length (now binds)) × (length (now t) ≡ tLength) × Closing (now binds) (now t) lo hi ⌝ }
     ensures { λ _. ⌜ Closed (now (binds .entry)) (now (t .entry)) lo hi (now (t .exit)) ⌝ }
 {
     let mut k = lo;

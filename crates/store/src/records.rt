@@ -5,6 +5,8 @@ ghost use lib.ListN.{length, getD, set};
 ghost use Rattle.lexical.specs.Records.{bit};
 ghost use Rattle.answer.specs.Records.{bindingName, bindingSlot};
 ghost use Rattle.store.specs.Words.{bindingWord, capturedWord, againWord, answerWord, pairWord};
+ghost use Rattle.store.specs.Sections.{errorsAt, halfWord, manyNodes, manySlotNumbers, wLength};
+use crate::sections::ERRORS;
 
 fn one(b: bool) -> u64
     ensures { λ r. ⌜ (r ≡ bit b) × (r ≤ 1) ⌝ }
@@ -24,7 +26,7 @@ pub fn put_binding(
     local: bool,
     slot: usize,
 )
-    requires { ⌜ (id < length (now binds)) × (name < 65536) × (source < 65536) × (slot < 32768) ⌝ }
+    requires { ⌜ (id < length (now binds)) × (name < halfWord) × (source < halfWord) × (slot < manySlotNumbers) ⌝ }
     ensures { λ _. ⌜ now (binds .exit) ≡ set (now (binds .entry)) id (bindingWord name source (bit from_module) (bit public) (bit any) 0 (bit local) slot) ⌝ }
 {
     binds[id] = answer::binding::make(
@@ -41,14 +43,14 @@ pub fn put_binding(
 
 pub fn name_of(binds: &[u64], id: usize) -> usize
     requires { ⌜ id < length (now binds) ⌝ }
-    ensures { λ r. ⌜ (r ≡ bindingName (getD (now (binds .entry)) id 0)) × (r < 65536) ⌝ }
+    ensures { λ r. ⌜ (r ≡ bindingName (getD (now (binds .entry)) id 0)) × (r < halfWord) ⌝ }
 {
     answer::binding::name(binds[id]) as usize
 }
 
 pub fn slot_of(binds: &[u64], id: usize) -> usize
     requires { ⌜ id < length (now binds) ⌝ }
-    ensures { λ r. ⌜ (r ≡ bindingSlot (getD (now (binds .entry)) id 0)) × (r < 32768) ⌝ }
+    ensures { λ r. ⌜ (r ≡ bindingSlot (getD (now (binds .entry)) id 0)) × (r < manySlotNumbers) ⌝ }
 {
     answer::binding::slot(binds[id]) as usize
 }
@@ -83,7 +85,7 @@ pub fn bind_again(binds: &mut [u64], id: usize, public: bool)
 
 // A node's answer.
 pub fn put_answer(w: &mut [u32], at: usize, class: usize, slot: usize, id: usize)
-    requires { ⌜ (at < 2048) × (class < 4) × (slot < 32768) × (id < 32768) × (length (now w) ≡ 12544) ⌝ }
+    requires { ⌜ (at < manyNodes) × (class < 4) × (slot < manySlotNumbers) × (id < manySlotNumbers) × (length (now w) ≡ wLength) ⌝ }
     ensures { λ _. ⌜ now (w .exit) ≡ set (now (w .entry)) at (answerWord class slot id) ⌝ }
 {
     w[at] = answer::node::make(class as u64, slot as u64, id as u64);
@@ -91,8 +93,8 @@ pub fn put_answer(w: &mut [u32], at: usize, class: usize, slot: usize, id: usize
 
 // Error number e.
 pub fn put_error(w: &mut [u32], e: usize, at: usize, code: usize)
-    requires { ⌜ (e < 2048) × (at < 2048) × (code < 3) × (length (now w) ≡ 12544) ⌝ }
-    ensures { λ _. ⌜ now (w .exit) ≡ set (now (w .entry)) (10240 + e) (pairWord at code) ⌝ }
+    requires { ⌜ (e < manyNodes) × (at < manyNodes) × (code < 3) × (length (now w) ≡ wLength) ⌝ }
+    ensures { λ _. ⌜ now (w .exit) ≡ set (now (w .entry)) (errorsAt + e) (pairWord at code) ⌝ }
 {
-    w[10240 + e] = answer::error::make(at as u64, code as u64);
+    w[ERRORS + e] = answer::error::make(at as u64, code as u64);
 }

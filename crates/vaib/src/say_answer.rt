@@ -1,6 +1,6 @@
 // `answer`: eight numbers of 32 bits, then the seven answer buffers at their full lengths, every element most significant byte first: 77,856 bytes.
-use libc::STDOUT_FILENO;
 use answer::Answer;
+use libc::STDOUT_FILENO;
 
 // No list is longer than 4,096 elements.
 const LONGEST: usize = 4096;
