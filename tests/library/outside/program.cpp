@@ -6,9 +6,9 @@
 static uint8_t file[VAIB_LONGEST_FILE + 1];
 static vaib_buffers records;
 
-static void say_local(unsigned node, const vaib_node_record &record, size_t copies) {
+static void say_local(size_t length, unsigned node, const vaib_node_record &record, size_t copies) {
     uint32_t around[64];
-    size_t count = vaib_scopes_around(file, node, around);
+    size_t count = vaib_scopes_around(file, length, node, around, 64);
     vaib_home home;
     vaib_follow(records.copies, copies, around, count, record.slot, &home);
     vaib_binding_record binding = vaib_unpack_binding(records.bindings[record.binding]);
@@ -25,7 +25,7 @@ int main() {
         vaib_kind kind = node.kind;
         vaib_node_record record = vaib_unpack_node(records.nodes[i]);
         vaib_class meaning = record.class_of;
-        if (kind == VAIB_IDENT && meaning == VAIB_LOCAL) say_local(i, record, answer.copies);
+        if (kind == VAIB_IDENT && meaning == VAIB_LOCAL) say_local(length, i, record, answer.copies);
     }
     vaib_module_record first = vaib_unpack_module(records.module[0]);
     vaib_slot_record slot = vaib_unpack_slot(records.slots[0]);
