@@ -2,7 +2,7 @@
 ghost use mathlib.Core.Path.{_≡_};
 ghost use mathlib.Core.Bool.{cond};
 ghost use mathlib.Core.List.{List, [], _∷_, _++_};
-ghost use Prim.Native.Nat.{ℕ, suc, _<_};
+ghost use Prim.Native.Nat.{ℕ, suc, _^_, _<_};
 ghost use lib.ListN.{length, replicate};
 ghost use Rattle.lexical.specs.Tree.{when};
 ghost use Rattle.around.specs.Scopes.{descend, counted, Holds};
@@ -12,7 +12,7 @@ use nodefile::kinds;
 
 // One scope more behind the n that are there, if it is one's own and the way down goes on in the last child.
 fn push(out: &mut [u32], n: usize, own: bool, last: bool, scope: u32) -> usize
-    requires { ⌜ n < 65536 ⌝ }
+    requires { ⌜ n < 2 ^ 16 ⌝ }
     ensures { λ r. ⌜ ((xs : List ℕ) → Holds xs n (now (out .entry)) (now (out .entry)) → Holds (xs ++ cond last (when own scope) []) r (now (out .entry)) (now (out .exit))) ⌝ }
 {
     if last {
@@ -27,7 +27,7 @@ fn push(out: &mut [u32], n: usize, own: bool, last: bool, scope: u32) -> usize
 
 // The scopes that are entered on the way down to node x, which is there; out holds zeros, and scope 0 is the first.
 pub fn descend(ns: &[u8], x: usize, out: &mut [u32]) -> usize
-    requires { ⌜ (x < counted (now ns)) × (counted (now ns) < 65536) × (now out ≡ replicate (length (now out)) 0) ⌝ }
+    requires { ⌜ (x < counted (now ns)) × (counted (now ns) < 2 ^ 16) × (now out ≡ replicate (length (now out)) 0) ⌝ }
     ensures { λ r. ⌜ Holds (0 ∷ descend (suc x) (now (ns .entry)) x 0 (counted (now (ns .entry))) []) r (now (out .entry)) (now (out .exit)) ⌝ }
 {
     let mut p = 0;

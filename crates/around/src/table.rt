@@ -1,7 +1,7 @@
 // All nodes, and the scope that each Def and Lambda stands in.
 ghost use mathlib.Core.Path.{_≡_};
 ghost use mathlib.Core.Bool.{cond};
-ghost use Prim.Native.Nat.{ℕ, _+_, _≤_, _<_};
+ghost use Prim.Native.Nat.{ℕ, _+_, _^_, _≤_, _<_};
 ghost use Rattle.lexical.specs.Tree.{when};
 ghost use Rattle.around.specs.Outer.{outerIn, stored};
 use crate::ends;
@@ -36,7 +36,7 @@ pub fn within(
     levels: usize,
     out: &mut [u32],
 )
-    requires { ⌜ to < 65536 ⌝ }
+    requires { ⌜ to < 2 ^ 16 ⌝ }
     ensures { λ _. ⌜ ((f : ℕ) → to ≤ from + f → now (out .exit) ≡ stored (outerIn f levels (now (ns .entry)) from to scope inner) (now (out .entry))) ⌝ }
 {
     if levels == 0 {

@@ -4,11 +4,12 @@ ghost use Prim.Native.Nat.{ℕ, _*_, _≤_};
 ghost use lib.ListN.{length};
 ghost use Rattle.lexical.specs.Tree.{Forest, params};
 ghost use Rattle.nodefile.specs.Reads.{Reads};
-ghost use Rattle.store.specs.Sections.{mem};
+ghost use Rattle.store.specs.Sections.{mem, manyNodes};
 ghost use Rattle.collect.specs.Cycle.{Pre1, Done};
 ghost use Rattle.collect.specs.Declare.{moduleIs, plainMarks, PreFunction, FunctionDone, PreHere, HereDone, PreAll, AllDone, PreCompr, ComprDone, Params};
 use crate::walk;
 use answer::ScopeId;
+use nodefile::kinds;
 use store::Block;
 use store::Marks;
 use store::State;
@@ -57,7 +58,7 @@ fn named_param(part: &[u8]) -> usize
 
 // How many of the nodes of a part are Params with a Name.
 fn param_count(part: &[u8]) -> usize
-    requires { ⌜ (length (now part) ≤ 16384) × ((at : ℕ) × (f : Forest) × Reads (now part) at f) ⌝ }
+    requires { ⌜ (length (now part) ≤ 8 * manyNodes) × ((at : ℕ) × (f : Forest) × Reads (now part) at f) ⌝ }
     ensures { λ r. ⌜ (8 * r ≤ length (now (part .entry))) × ((at : ℕ) (f : Forest) → Reads (now (part .entry)) at f → r ≡ params f) ⌝ }
 {
     let mut n = 0;
@@ -114,12 +115,12 @@ fn declare_node(
     ensures { λ r. ⌜ HereDone (now (part .entry)) at st (mem (now (binds .entry)) (now (w .entry)) (now (t .entry))) r (mem (now (binds .exit)) (now (w .exit)) (now (t .exit))) ⌝ }
 {
     let k = nodefile::kind(part);
-    if k == 6 {
+    if k == kinds::DEF {
         let e = 8 * nodefile::size(part) as usize;
         let scope = nodefile::value(part) as usize;
         return collect_defines_in_def(&part[16..e], at + 2, scope, st, binds, w, t);
     }
-    if k == 12 {
+    if k == kinds::LAMBDA {
         let e = 8 * nodefile::size(part) as usize;
         let scope = nodefile::value(part) as usize;
         return collect_defines_in_def(&part[8..e], at + 1, scope, st, binds, w, t);

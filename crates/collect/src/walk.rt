@@ -4,6 +4,7 @@ ghost use Rattle.store.specs.Sections.{mem};
 ghost use Rattle.target.specs.Target.{marksOf};
 ghost use Rattle.collect.specs.Cycle.{Pre, Pre1, PreKind, Done};
 ghost use Rattle.lexical.specs.Code.Collect.{inLoop, inLoad, asParam};
+use nodefile::kinds;
 use store::Block;
 use store::Marks;
 use store::State;
@@ -80,19 +81,19 @@ pub fn collect_node(
     ensures { λ r. ⌜ Done (now (part .entry)) at block marks st (mem (now (binds .entry)) (now (w .entry)) (now (t .entry))) r (mem (now (binds .exit)) (now (w .exit)) (now (t .exit))) ⌝ }
 {
     let k = nodefile::kind(part);
-    if k < 8 {
+    if k < kinds::NAME {
         return collect_defines(part, at, block, marks, st, binds, w, t);
     }
-    if k < 11 {
+    if k < kinds::IDENT {
         return collect_defines_lvalue(part, at, block, marks, st, binds, w, t);
     }
-    if k < 15 {
+    if k < kinds::FOR_CLAUSE {
         return st;
     }
-    if k < 17 {
+    if k < kinds::PARAM {
         return collect_defines_clause(part, at, block, marks, st, binds, w, t);
     }
-    if k == 17 {
+    if k == kinds::PARAM {
         return collect_defines_param(part, at, block, marks, st, binds, w, t);
     }
     st
@@ -114,14 +115,14 @@ fn collect_defines(
 {
     let k = nodefile::kind(part);
     let e = part.len();
-    if k == 6 {
+    if k == kinds::DEF {
         let name = nodefile::value(&part[8..e]) as usize;
         return target::collect_assign_ident(name, at + 1, block, marks, st, binds, w, t);
     }
-    if k == 5 {
+    if k == kinds::FOR {
         return collect_kids(&part[8..e], at + 1, block, looping(marks), st, binds, w, t);
     }
-    if k == 7 {
+    if k == kinds::LOAD {
         return collect_kids(&part[8..e], at + 1, block, loading(marks), st, binds, w, t);
     }
     collect_kids(&part[8..e], at + 1, block, marks, st, binds, w, t)
@@ -142,7 +143,7 @@ fn collect_defines_lvalue(
     ensures { λ r. ⌜ Done (now (part .entry)) at block marks st (mem (now (binds .entry)) (now (w .entry)) (now (t .entry))) r (mem (now (binds .exit)) (now (w .exit)) (now (t .exit))) ⌝ }
 {
     let k = nodefile::kind(part);
-    if k == 8 {
+    if k == kinds::NAME {
         let name = nodefile::value(part) as usize;
         return target::collect_assign_ident(name, at, block, marks, st, binds, w, t);
     }

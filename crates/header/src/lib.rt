@@ -3,6 +3,17 @@ ghost use Rattle.base.specs.Says.{Says};
 ghost use Rattle.base.specs.First.{First};
 ghost use Rattle.header.specs.Header.{BadHeader, BadCounts, BadLength, headerRows};
 
+// How much of each a file may have (document 01, number 3).
+const MOST_NODES: u64 = 2048;
+
+const MOST_NAMES: u64 = 1024;
+
+const MOST_ENTRIES: u64 = 256;
+
+const MOST_GLOBALS: u64 = 256;
+
+const MOST_POOL_BYTES: u64 = 16384;
+
 // Number 2: fewer than 12 bytes, version not 1, or zero bits set.
 fn bad_header(file: &[u8]) -> bool
     ensures { λ r. ⌜ Says r (BadHeader (now (file .entry))) ⌝ }
@@ -27,19 +38,19 @@ fn bad_counts(file: &[u8]) -> bool
     if nodes == 0 {
         return true;
     }
-    if nodes > 2048 {
+    if nodes > MOST_NODES {
         return true;
     }
-    if nodefile::name_count(file) > 1024 {
+    if nodefile::name_count(file) > MOST_NAMES {
         return true;
     }
-    if nodefile::entry_count(file) > 256 {
+    if nodefile::entry_count(file) > MOST_ENTRIES {
         return true;
     }
-    if nodefile::global_count(file) > 256 {
+    if nodefile::global_count(file) > MOST_GLOBALS {
         return true;
     }
-    if nodefile::pool_bytes(file) > 16384 {
+    if nodefile::pool_bytes(file) > MOST_POOL_BYTES {
         return true;
     }
     false

@@ -6,15 +6,16 @@
 // `idents_in_param` is what its `resolve_idents_in_def` does at a parameter.
 ghost use mathlib.Core.Path.{_≡_};
 ghost use mathlib.Core.Bool.{true, false};
-ghost use Prim.Native.Nat.{_+_, _≤_, _<_};
+ghost use Prim.Native.Nat.{_+_, _*_, _≤_, _<_};
 ghost use lib.ListN.{length};
-ghost use Rattle.store.specs.Sections.{mem};
+ghost use Rattle.store.specs.Sections.{mem, manyNodes};
 ghost use Rattle.idents.specs.Cycle.{Pre, Pre1, PreKind, PreDef, Done, DoneAny, Parted, LastAt};
+use nodefile::kinds;
 use store::State;
 
 // The byte at which the last of the nodes of a part starts.
 fn last(part: &[u8]) -> usize
-    requires { ⌜ (length (now part) ≤ 16384) × Parted (now part) ⌝ }
+    requires { ⌜ (length (now part) ≤ 8 * manyNodes) × Parted (now part) ⌝ }
     ensures { λ r. ⌜ ((g : Parted (now (part .entry))) → LastAt (now (part .entry)) (g .at) (g .f) r) ⌝ }
 {
     let mut i = 0;
@@ -49,7 +50,7 @@ fn each(
         let here = &part[i..e];
         let at_here = n;
         let kind = nodefile::kind(here);
-        if kind == 14 {
+        if kind == kinds::OTHER {
             n += 1;
             i += 8;
         } else {
@@ -57,7 +58,7 @@ fn each(
             i = e;
             if k > 1 {
                 s = resolve_node(here, at_here, ty, s, binds, w, t);
-            } else if kind == 11 {
+            } else if kind == kinds::IDENT {
                 let name = nodefile::value(here) as usize;
                 s = lookup::resolve_ident(name, at_here, ty, s, binds, w, t);
             }
@@ -80,19 +81,19 @@ pub fn resolve_node(
     ensures { λ r. ⌜ Done (now (part .entry)) at ty st (mem (now (binds .entry)) (now (w .entry)) (now (t .entry))) r (mem (now (binds .exit)) (now (w .exit)) (now (t .exit))) ⌝ }
 {
     let k = nodefile::kind(part);
-    if k < 8 {
+    if k < kinds::NAME {
         return resolve_idents(part, at, ty, st, binds, w, t);
     }
-    if k < 11 {
+    if k < kinds::IDENT {
         return idents_in_assign(part, at, ty, st, binds, w, t);
     }
-    if k < 15 {
+    if k < kinds::FOR_CLAUSE {
         return idents_in_expr(part, at, ty, st, binds, w, t);
     }
-    if k < 17 {
+    if k < kinds::PARAM {
         return idents_in_clause(part, at, ty, st, binds, w, t);
     }
-    if k == 17 {
+    if k == kinds::PARAM {
         return idents_in_param(part, at, ty, st, binds, w, t);
     }
     idents_in_type_expr(part, at, st, binds, w, t)
@@ -149,14 +150,14 @@ fn idents_in_expr(
     ensures { λ r. ⌜ Done (now (part .entry)) at ty st (mem (now (binds .entry)) (now (w .entry)) (now (t .entry))) r (mem (now (binds .exit)) (now (w .exit)) (now (t .exit))) ⌝ }
 {
     let k = nodefile::kind(part);
-    if k == 11 {
+    if k == kinds::IDENT {
         let name = nodefile::value(part) as usize;
         return lookup::resolve_ident(name, at, ty, st, binds, w, t);
     }
-    if k == 12 {
+    if k == kinds::LAMBDA {
         return idents_in_def(part, at, st, binds, w, t);
     }
-    if k == 13 {
+    if k == kinds::COMPR {
         return idents_in_compr(part, at, st, binds, w, t);
     }
     let e = part.len();

@@ -43,7 +43,7 @@ fn copy_parent(
 {
     let c = st.copies;
     let k = st.slots;
-    if k >= 4096 {
+    if k >= answer::SLOTS {
         return no_room(st);
     }
     let child = store::fresh_slot(w, scope.0);

@@ -2,6 +2,7 @@
 ghost use mathlib.Core.Path.{_≡_};
 ghost use Prim.Native.Nat.{_≤_};
 ghost use lib.ListN.{length};
+ghost use Rattle.store.specs.Sections.{manyBindings, tLength};
 ghost use Rattle.lookup.specs.Enter.{Entering, Entered, Leaving, Left};
 use store::State;
 
@@ -20,7 +21,7 @@ fn at_level(st: State, level: usize) -> State
 
 // Its variables come into reach, innermost.
 pub fn enter_def(scope: usize, st: State, binds: &[u64], t: &mut [u16]) -> State
-    requires { ⌜ (2304 ≤ length (now binds)) × (length (now t) ≡ 20864) × Entering scope st (now binds) (now t) ⌝ }
+    requires { ⌜ (manyBindings ≤ length (now binds)) × (length (now t) ≡ tLength) × Entering scope st (now binds) (now t) ⌝ }
     ensures { λ r. ⌜ Entered scope st (now (binds .entry)) (now (t .entry)) r (now (t .exit)) ⌝ }
 {
     if st.full {
@@ -36,7 +37,7 @@ pub fn enter_def(scope: usize, st: State, binds: &[u64], t: &mut [u16]) -> State
 
 // They go out of reach.
 pub fn exit_def(scope: usize, st: State, binds: &[u64], t: &mut [u16]) -> State
-    requires { ⌜ (2304 ≤ length (now binds)) × (length (now t) ≡ 20864) × Leaving scope st (now binds) (now t) ⌝ }
+    requires { ⌜ (manyBindings ≤ length (now binds)) × (length (now t) ≡ tLength) × Leaving scope st (now binds) (now t) ⌝ }
     ensures { λ r. ⌜ Left scope st (now (binds .entry)) (now (t .entry)) r (now (t .exit)) ⌝ }
 {
     if st.full {

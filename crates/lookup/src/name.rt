@@ -2,7 +2,7 @@
 ghost use mathlib.Core.Path.{_≡_};
 ghost use Prim.Native.Nat.{_+_, _≤_, _<_};
 ghost use lib.ListN.{length, getD, set};
-ghost use Rattle.store.specs.Sections.{mem, Long};
+ghost use Rattle.store.specs.Sections.{mem, Long, globAt, manyBindings, manyNames, manyNodes, manySlotNumbers, tLength, wLength};
 ghost use Rattle.lookup.specs.Lookup.{Capturing, Captured, Locally, LocalDone, InModule, ModuleDone, Named, NamedDone, Keeping, Kept, Ident, IdentDone, asGlobal, SmallSlot, slotAnswer, ErrorAdded};
 use crate::bring;
 use answer::BindingId;
@@ -12,9 +12,21 @@ use store::Resolved;
 use store::Slot;
 use store::State;
 
+// An Ident's class in its node's record.
+const MODULE: usize = 1;
+
+const LOCAL: usize = 2;
+
+const GLOBAL: usize = 3;
+
+// An error's code.
+const NOT_FOUND: usize = 1;
+
+const LOCAL_IN_TYPE: usize = 2;
+
 // A local that another scope owns is captured.
 fn capture_local(id: usize, level: usize, binds: &mut [u64], t: &[u16])
-    requires { ⌜ (2304 ≤ length (now binds)) × (length (now t) ≡ 20864) × Capturing id level (now binds) (now t) ⌝ }
+    requires { ⌜ (manyBindings ≤ length (now binds)) × (length (now t) ≡ tLength) × Capturing id level (now binds) (now t) ⌝ }
     ensures { λ _. ⌜ Captured id level (now (binds .entry)) (now (t .entry)) (now (binds .exit)) ⌝ }
 {
     if store::owner(t, id) != store::scope_at_level(t, level) {
@@ -52,7 +64,7 @@ fn get_local(
 
 // A module name: captured inside a function.
 fn get_module(id: BindingId, st: State, binds: &mut [u64]) -> Resolved
-    requires { ⌜ (2304 ≤ length (now binds)) × InModule (id .0) st (now binds) ⌝ }
+    requires { ⌜ (manyBindings ≤ length (now binds)) × InModule (id .0) st (now binds) ⌝ }
     ensures { λ r. ⌜ ModuleDone (id .0) st (now (binds .entry)) r (now (binds .exit)) ⌝ }
 {
     let slot = store::slot_of(binds, id.0);
@@ -66,8 +78,8 @@ fn get_module(id: BindingId, st: State, binds: &mut [u64]) -> Resolved
 
 // A global, or nothing.
 fn get_global(name: usize, t: &[u16]) -> Resolution
-    requires { ⌜ (name < 1024) × (length (now t) ≡ 20864) ⌝ }
-    ensures { λ r. ⌜ r ≡ asGlobal (getD (now (t .entry)) (2048 + name) 0) ⌝ }
+    requires { ⌜ (name < manyNames) × (length (now t) ≡ tLength) ⌝ }
+    ensures { λ r. ⌜ r ≡ asGlobal (getD (now (t .entry)) (globAt + name) 0) ⌝ }
 {
     let g = store::global(t, name);
     if g > 0 {
@@ -101,22 +113,22 @@ fn get_name(
 }
 
 fn put_slot(at: usize, slot: Slot, id: BindingId, w: &mut [u32])
-    requires { ⌜ (at < 2048) × SmallSlot slot × (id .0 < 32768) × (length (now w) ≡ 12544) ⌝ }
+    requires { ⌜ (at < manyNodes) × SmallSlot slot × (id .0 < manySlotNumbers) × (length (now w) ≡ wLength) ⌝ }
     ensures { λ _. ⌜ now (w .exit) ≡ set (now (w .entry)) at (slotAnswer slot (id .0)) ⌝ }
 {
     match slot {
-        Slot::Module(k) => store::put_answer(w, at, 1, k.0, id.0),
-        Slot::Local(k) => store::put_answer(w, at, 2, k.0, id.0),
+        Slot::Module(k) => store::put_answer(w, at, MODULE, k.0, id.0),
+        Slot::Local(k) => store::put_answer(w, at, LOCAL, k.0, id.0),
     }
 }
 
 // An error, if there is room for it.
 fn add_error(at: usize, code: usize, st: State, w: &mut [u32]) -> State
-    requires { ⌜ (at < 2048) × (code < 3) × (length (now w) ≡ 12544) ⌝ }
+    requires { ⌜ (at < manyNodes) × (code < 3) × (length (now w) ≡ wLength) ⌝ }
     ensures { λ r. ⌜ ErrorAdded at code st (now (w .entry)) r (now (w .exit)) ⌝ }
 {
     let e = st.errors;
-    if e >= 2048 {
+    if e >= answer::ERRORS {
         return State {
             bindings: st.bindings,
             slots: st.slots,
@@ -139,7 +151,7 @@ fn add_error(at: usize, code: usize, st: State, w: &mut [u32]) -> State
 
 // What an identifier came to, in its node's record or among the errors.
 fn put_resolution(at: usize, res: Resolution, st: State, w: &mut [u32]) -> State
-    requires { ⌜ (length (now w) ≡ 12544) × Keeping at res st (now w) ⌝ }
+    requires { ⌜ (length (now w) ≡ wLength) × Keeping at res st (now w) ⌝ }
     ensures { λ r. ⌜ Kept at res st (now (w .entry)) r (now (w .exit)) ⌝ }
 {
     match res {
@@ -148,11 +160,11 @@ fn put_resolution(at: usize, res: Resolution, st: State, w: &mut [u32]) -> State
             st
         }
         Resolution::Global(g) => {
-            store::put_answer(w, at, 3, g, 0);
+            store::put_answer(w, at, GLOBAL, g, 0);
             st
         }
-        Resolution::NotFound => add_error(at, 1, st, w),
-        Resolution::LocalInType => add_error(at, 2, st, w),
+        Resolution::NotFound => add_error(at, NOT_FOUND, st, w),
+        Resolution::LocalInType => add_error(at, LOCAL_IN_TYPE, st, w),
     }
 }
 

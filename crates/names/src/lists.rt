@@ -3,8 +3,11 @@ ghost use mathlib.Core.Path.{_≡_};
 ghost use Prim.Native.Nat.{_≤_};
 ghost use Rattle.base.specs.Says.{Says};
 ghost use Rattle.base.specs.UpTo.{upTo};
+ghost use Rattle.nodefile.specs.Limits.{manyNames};
 ghost use Rattle.names.specs.Lists.{BadList};
 ghost use Rattle.names.specs.Inside.Line.{lineOf};
+
+const MOST_NAMES: usize = 1024;
 
 // The name number of line k of the module entries, if entries, or of the globals.
 fn line(part: &[u8], entries: bool, k: usize) -> u64
@@ -18,10 +21,10 @@ fn line(part: &[u8], entries: bool, k: usize) -> u64
 
 // Whether one of the n lines has no such name, or a name stands twice among them.
 pub fn bad_list(part: &[u8], entries: bool, n: usize, names: u64) -> bool
-    requires { ⌜ (n ≤ 256) × (names ≤ 1024) ⌝ }
+    requires { ⌜ (n ≤ 256) × (names ≤ manyNames) ⌝ }
     ensures { λ r. ⌜ Says r (BadList names (upTo (lineOf (now (part .entry)) entries) n)) ⌝ }
 {
-    let mut seen = [0u8; 1024];
+    let mut seen = [0u8; MOST_NAMES];
     let mut k: usize = 0;
     while k < n {
         let name = line(part, entries, k);

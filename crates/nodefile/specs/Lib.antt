@@ -1,5 +1,6 @@
 pub mod Node
 pub mod Layout
+pub mod Limits
 pub mod Lists
 pub mod FileOf
 pub mod Kids

@@ -25,19 +25,19 @@ pub fn node_zero(t: &[u8]) -> u64
 }
 
 pub fn size(t: &[u8]) -> u64
-    ensures { λ r. ⌜ Is (sizeOf (now (t .entry))) 65536 r ⌝ }
+    ensures { λ r. ⌜ Is (sizeOf (now (t .entry))) (2 ^ 16) r ⌝ }
 {
     bits::field(t, 8, 16)
 }
 
 pub fn value(t: &[u8]) -> u64
-    ensures { λ r. ⌜ Is (valueOf (now (t .entry))) 65536 r ⌝ }
+    ensures { λ r. ⌜ Is (valueOf (now (t .entry))) (2 ^ 16) r ⌝ }
 {
     bits::field(t, 24, 16)
 }
 
 pub fn source(t: &[u8]) -> u64
-    ensures { λ r. ⌜ Is (sourceOf (now (t .entry))) 16777216 r ⌝ }
+    ensures { λ r. ⌜ Is (sourceOf (now (t .entry))) (2 ^ 24) r ⌝ }
 {
     bits::field(t, 40, 24)
 }
@@ -63,31 +63,31 @@ pub fn head_zero(file: &[u8]) -> u64
 }
 
 pub fn node_count(file: &[u8]) -> u64
-    ensures { λ r. ⌜ Is (nodeCount (now (file .entry))) 65536 r ⌝ }
+    ensures { λ r. ⌜ Is (nodeCount (now (file .entry))) (2 ^ 16) r ⌝ }
 {
     bits::field(file, 8, 16)
 }
 
 pub fn name_count(file: &[u8]) -> u64
-    ensures { λ r. ⌜ Is (nameCount (now (file .entry))) 65536 r ⌝ }
+    ensures { λ r. ⌜ Is (nameCount (now (file .entry))) (2 ^ 16) r ⌝ }
 {
     bits::field(file, 24, 16)
 }
 
 pub fn entry_count(file: &[u8]) -> u64
-    ensures { λ r. ⌜ Is (entryCount (now (file .entry))) 65536 r ⌝ }
+    ensures { λ r. ⌜ Is (entryCount (now (file .entry))) (2 ^ 16) r ⌝ }
 {
     bits::field(file, 40, 16)
 }
 
 pub fn global_count(file: &[u8]) -> u64
-    ensures { λ r. ⌜ Is (globalCount (now (file .entry))) 65536 r ⌝ }
+    ensures { λ r. ⌜ Is (globalCount (now (file .entry))) (2 ^ 16) r ⌝ }
 {
     bits::field(file, 56, 16)
 }
 
 pub fn pool_bytes(file: &[u8]) -> u64
-    ensures { λ r. ⌜ Is (poolBytes (now (file .entry))) 16777216 r ⌝ }
+    ensures { λ r. ⌜ Is (poolBytes (now (file .entry))) (2 ^ 24) r ⌝ }
 {
     bits::field(file, 72, 24)
 }
@@ -95,25 +95,25 @@ pub fn pool_bytes(file: &[u8]) -> u64
 // ---- the parts of a file, as far as it has them
 
 fn names_at(file: &[u8]) -> usize
-    ensures { λ r. ⌜ Is (namesAt (now (file .entry))) 1048576 r ⌝ }
+    ensures { λ r. ⌜ Is (namesAt (now (file .entry))) (2 ^ 20) r ⌝ }
 {
     12 + 8 * node_count(file) as usize
 }
 
 fn entries_at(file: &[u8]) -> usize
-    ensures { λ r. ⌜ Is (entriesAt (now (file .entry))) 2097152 r ⌝ }
+    ensures { λ r. ⌜ Is (entriesAt (now (file .entry))) (2 ^ 21) r ⌝ }
 {
     names_at(file) + 3 * name_count(file) as usize
 }
 
 fn globals_at(file: &[u8]) -> usize
-    ensures { λ r. ⌜ Is (globalsAt (now (file .entry))) 4194304 r ⌝ }
+    ensures { λ r. ⌜ Is (globalsAt (now (file .entry))) (2 ^ 22) r ⌝ }
 {
     entries_at(file) + 4 * entry_count(file) as usize
 }
 
 fn pool_at(file: &[u8]) -> usize
-    ensures { λ r. ⌜ Is (poolAt (now (file .entry))) 8388608 r ⌝ }
+    ensures { λ r. ⌜ Is (poolAt (now (file .entry))) (2 ^ 23) r ⌝ }
 {
     globals_at(file) + 2 * global_count(file) as usize
 }
@@ -163,7 +163,7 @@ fn record_field(list: &[u8], bytes: usize, k: usize, at: usize, width: usize) ->
 }
 
 pub fn name_offset(nm: &[u8], k: usize) -> u64
-    ensures { λ r. ⌜ Is (nameOff (now (nm .entry)) k) 65536 r ⌝ }
+    ensures { λ r. ⌜ Is (nameOff (now (nm .entry)) k) (2 ^ 16) r ⌝ }
 {
     record_field(nm, 3, k, 0, 16)
 }
@@ -197,7 +197,7 @@ pub fn hidden(nm: &[u8], pool: &[u8], k: usize) -> bool
 }
 
 pub fn entry_name(es: &[u8], k: usize) -> u64
-    ensures { λ r. ⌜ Is (entryName (now (es .entry)) k) 65536 r ⌝ }
+    ensures { λ r. ⌜ Is (entryName (now (es .entry)) k) (2 ^ 16) r ⌝ }
 {
     record_field(es, 4, k, 0, 16)
 }
@@ -209,13 +209,13 @@ pub fn entry_public(es: &[u8], k: usize) -> u64
 }
 
 pub fn entry_slot(es: &[u8], k: usize) -> u64
-    ensures { λ r. ⌜ Is (entrySlot (now (es .entry)) k) 32768 r ⌝ }
+    ensures { λ r. ⌜ Is (entrySlot (now (es .entry)) k) (2 ^ 15) r ⌝ }
 {
     record_field(es, 4, k, 17, 15)
 }
 
 pub fn global_name(gs: &[u8], k: usize) -> u64
-    ensures { λ r. ⌜ Is (globalName (now (gs .entry)) k) 65536 r ⌝ }
+    ensures { λ r. ⌜ Is (globalName (now (gs .entry)) k) (2 ^ 16) r ⌝ }
 {
     record_field(gs, 2, k, 0, 16)
 }

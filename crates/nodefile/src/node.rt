@@ -1,6 +1,6 @@
 // A node of a file by its number; any bytes are taken.
 ghost use mathlib.Core.Path.{_≡_};
-ghost use Prim.Native.Nat.{_*_};
+ghost use Prim.Native.Nat.{_*_, _^_};
 ghost use lib.ListN.{drop};
 ghost use Rattle.nodefile.specs.Layout.{nodesOf};
 ghost use Rattle.nodefile.specs.Listed.{kindAt, valueAt, scopeCount};
@@ -25,14 +25,14 @@ pub fn kind(file: &[u8], i: usize) -> u64
 }
 
 pub fn value(file: &[u8], i: usize) -> u64
-    ensures { λ r. ⌜ Is (valueAt (nodesOf (now (file .entry))) i) 65536 r ⌝ }
+    ensures { λ r. ⌜ Is (valueAt (nodesOf (now (file .entry))) i) (2 ^ 16) r ⌝ }
 {
     crate::value(node(crate::nodes(file), i))
 }
 
 // The number of Defs and Lambdas.
 pub fn scope_count(file: &[u8]) -> usize
-    ensures { λ r. ⌜ Is (scopeCount (now (file .entry))) 65536 r ⌝ }
+    ensures { λ r. ⌜ Is (scopeCount (now (file .entry))) (2 ^ 16) r ⌝ }
 {
     let n = crate::node_count(file) as usize;
     let mut s = 0;

@@ -8,12 +8,18 @@ ghost use Rattle.lexical.specs.Tree.{Forest};
 ghost use Rattle.lexical.specs.Records.{bit};
 ghost use Rattle.nodefile.specs.Layout.{entryCount, globalCount};
 ghost use Rattle.nodefile.specs.FileOf.{fileOf};
-ghost use Rattle.store.specs.Sections.{modAt, globAt, hiddenAt};
+ghost use Rattle.store.specs.Sections.{modAt, globAt, hiddenAt, manyNames, manyBindings, tLength};
 ghost use Rattle.store.specs.Image.{MadeIn};
 ghost use Rattle.store.specs.Blocks.{moduleBlock, varsOf};
 ghost use Rattle.store.specs.Laws.Points.{Zeros};
 ghost use Rattle.note.specs.Filled.{Blank};
 ghost use Rattle.note.specs.Noted.{ListsOk, HiddenNoted, NumbersNoted, unlessNoted, globalsUpTo, Entered, Noted};
+use store::sections::GLOBALS;
+use store::sections::HIDDEN;
+use store::sections::LOADS_SHOWN;
+
+// The source of a binding that is from the module (document 01, "Answer buffers").
+const FROM_MODULE: usize = 65535;
 
 fn flag(b: bool) -> u16
     ensures { λ r. ⌜ r ≡ bit b ⌝ }
@@ -23,7 +29,7 @@ fn flag(b: bool) -> u16
 
 // Which names begin with `_`.
 fn note_hidden(file: &[u8], t: &mut [u16])
-    requires { ⌜ (length (now t) ≡ 20864) × ListsOk (now file) × Blank hiddenAt 1024 (now t) ⌝ }
+    requires { ⌜ (length (now t) ≡ tLength) × ListsOk (now file) × Blank hiddenAt manyNames (now t) ⌝ }
     ensures { λ _. ⌜ HiddenNoted (now (file .entry)) (now (t .entry)) (now (t .exit)) ⌝ }
 {
     let nm = nodefile::names(file);
@@ -31,7 +37,7 @@ fn note_hidden(file: &[u8], t: &mut [u16])
     let n = nodefile::name_count(file) as usize;
     let mut k = 0;
     while k < n {
-        t[3072 + k] = flag(nodefile::hidden(nm, pool, k));
+        t[HIDDEN + k] = flag(nodefile::hidden(nm, pool, k));
         k += 1;
     }
 }
@@ -48,7 +54,7 @@ fn unless_noted(old: u16, new: u16) -> u16
 
 // Each global's number.
 fn note_globals(file: &[u8], t: &mut [u16])
-    requires { ⌜ (length (now t) ≡ 20864) × ListsOk (now file) × Blank globAt 1024 (now t) ⌝ }
+    requires { ⌜ (length (now t) ≡ tLength) × ListsOk (now file) × Blank globAt manyNames (now t) ⌝ }
     ensures { λ _. ⌜ NumbersNoted globAt (globalsUpTo (now (file .entry)) (globalCount (now (file .entry)))) (now (t .entry)) (now (t .exit)) ⌝ }
 {
     let gs = nodefile::globals(file);
@@ -56,15 +62,15 @@ fn note_globals(file: &[u8], t: &mut [u16])
     let mut k = 0;
     while k < n {
         let name = nodefile::global_name(gs, k) as usize;
-        let old = t[2048 + name];
-        t[2048 + name] = unless_noted(old, (k + 1) as u16);
+        let old = t[GLOBALS + name];
+        t[GLOBALS + name] = unless_noted(old, (k + 1) as u16);
         k += 1;
     }
 }
 
 // Each module entry makes a binding.
 fn note_entries(file: &[u8], binds: &mut [u64], t: &mut [u16]) -> usize
-    requires { ⌜ (2304 ≤ length (now binds)) × (length (now t) ≡ 20864) × ListsOk (now file) × MadeIn [] (λ _. false) (now binds) (now t) × Blank modAt 1024 (now t) ⌝ }
+    requires { ⌜ (manyBindings ≤ length (now binds)) × (length (now t) ≡ tLength) × ListsOk (now file) × MadeIn [] (λ _. false) (now binds) (now t) × Blank modAt manyNames (now t) ⌝ }
     ensures { λ r. ⌜ (r ≡ entryCount (now (file .entry))) × ((root : Forest) → let E = moduleBlock (fileOf (now (file .entry)) root) in Entered E (varsOf E []) (now (t .entry)) (now (binds .exit)) (now (t .exit))) ⌝ }
 {
     let es = nodefile::entries(file);
@@ -74,7 +80,17 @@ fn note_entries(file: &[u8], binds: &mut [u64], t: &mut [u16]) -> usize
         let name = nodefile::entry_name(es, k) as usize;
         let public = nodefile::entry_public(es, k) == 1;
         let slot = nodefile::entry_slot(es, k) as usize;
-        store::put_binding(binds, k, name, 65535, true, public, false, false, slot);
+        store::put_binding(
+            binds,
+            k,
+            name,
+            FROM_MODULE,
+            true,
+            public,
+            false,
+            false,
+            slot,
+        );
         store::put_known(t, false, name, k);
         k += 1;
     }
@@ -83,10 +99,10 @@ fn note_entries(file: &[u8], binds: &mut [u64], t: &mut [u16]) -> usize
 
 // All of them, into lists that are all zero; how many module entries there are.
 pub fn note_lists(file: &[u8], binds: &mut [u64], t: &mut [u16]) -> usize
-    requires { ⌜ (2304 ≤ length (now binds)) × (length (now t) ≡ 20864) × Zeros (now binds) × Zeros (now t) × ListsOk (now file) ⌝ }
+    requires { ⌜ (manyBindings ≤ length (now binds)) × (length (now t) ≡ tLength) × Zeros (now binds) × Zeros (now t) × ListsOk (now file) ⌝ }
     ensures { λ r. ⌜ ((root : Forest) → Noted (fileOf (now (file .entry)) root) r (now (binds .exit)) (now (t .exit))) ⌝ }
 {
-    t[20863] = flag(nodefile::reexport(file) == 1);
+    t[LOADS_SHOWN] = flag(nodefile::reexport(file) == 1);
     note_hidden(file, t);
     note_globals(file, t);
     note_entries(file, binds, t)

@@ -13,6 +13,7 @@ ghost use Rattle.scope.specs.Walks.{PreNodes, NodesDone, PreWalk, WalkDo
 ghost use Rattle.scope.specs.Copied.{PreCopy, Copied};
 use answer::Answer;
 use store::State;
+use store::sections;
 
 // The walks' end: the state, and the number of module bindings.
 struct Walked {
@@ -54,7 +55,7 @@ fn walk(file: &[u8], binds: &mut [u64], w: &mut [u32]) -> Walked
     requires { ⌜ PreWalk (now file) (now binds) (now w) ⌝ }
     ensures { λ r. ⌜ WalkDone (now (file .entry)) r (now (binds .exit)) (now (w .exit)) ⌝ }
 {
-    let mut t = [0u16; 20864];
+    let mut t = [0u16; sections::T_LENGTH];
     let entries = note::note_lists(file, binds, &mut t);
     enter_module(nodefile::nodes(file), entries, binds, w, &mut t)
 }
@@ -144,10 +145,10 @@ fn copy_out(
     ensures { λ _. ⌜ Copied (now (w .entry)) n st (now (nodes .entry)) (now (scopes .entry)) (now (slots .entry)) (now (copies .entry)) (now (errors .entry)) (now (nodes .exit)) (now (scopes .exit)) (now (slots .exit)) (now (copies .exit)) (now (errors .exit)) ⌝ }
 {
     out::copy_front(w, 0, n, nodes);
-    out::copy_front(w, 12288, answer::SCOPES, scopes);
-    out::copy_front(w, 2048, st.slots, slots);
-    out::copy_front(w, 6144, st.copies, copies);
-    out::copy_front(w, 10240, st.errors, errors);
+    out::copy_front(w, sections::SCOPES, answer::SCOPES, scopes);
+    out::copy_front(w, sections::SLOTS, st.slots, slots);
+    out::copy_front(w, sections::COPIES, st.copies, copies);
+    out::copy_front(w, sections::ERRORS, st.errors, errors);
 }
 
 // The walks of an accepted file, and its records into buffers that are all zero.
@@ -164,7 +165,7 @@ fn resolve_accepted(
     requires { ⌜ PreAccepted (now file) (buffers (now nodes) (now bindings) (now «module») (now scopes) (now slots) (now copies) (now errors)) ⌝ }
     ensures { λ r. ⌜ Accepting (now (file .entry)) (buffers (now (nodes .entry)) (now (bindings .entry)) (now («module» .entry)) (now (scopes .entry)) (now (slots .entry)) (now (copies .entry)) (now (errors .entry))) r (buffers (now (nodes .exit)) (now (bindings .exit)) (now («module» .exit)) (now (scopes .exit)) (now (slots .exit)) (now (copies .exit)) (now (errors .exit))) ⌝ }
 {
-    let mut w = [0u32; 12544];
+    let mut w = [0u32; sections::W_LENGTH];
     let r = walk(file, &mut bindings[0..answer::BINDINGS], &mut w);
     let st = r.st;
     let m = r.module;

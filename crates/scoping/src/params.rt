@@ -22,8 +22,10 @@ fn is_named(t: &[u8]) -> bool
     false
 }
 
+const MOST_NAMES: usize = 1024;
+
 // Whether the Params among the children in a part have different names. Marks each name with the stamp.
-fn apart(kids: &[u8], marks: &mut [u8; 1024], stamp: u8) -> bool
+fn apart(kids: &[u8], marks: &mut [u8; MOST_NAMES], stamp: u8) -> bool
     requires { ⌜ Known (now kids) × Fresh (now marks) stamp ⌝ }
     ensures { λ r. ⌜ ((vs : List ℕ) → ParamNames (now (kids .entry)) vs → Says r (Distinct vs)) × Fresh (now (marks .exit)) (stamp + 1) ⌝ }
 {
@@ -49,7 +51,7 @@ pub fn bad_params(ns: &[u8], found: &[u16; 256]) -> bool
     requires { ⌜ Sound (now ns) × Found (now ns) (now found) × AllKnown (now ns) ⌝ }
     ensures { λ r. ⌜ Says r (BadParams (now (ns .entry))) ⌝ }
 {
-    let mut marks = [0u8; 1024];
+    let mut marks = [0u8; MOST_NAMES];
     let mut v: usize = 1;
     while v < 256 {
         let cell = marks::place(found[v]);

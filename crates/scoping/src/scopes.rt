@@ -1,7 +1,8 @@
 // Number 10: the scope numbers.
 ghost use mathlib.Core.Path.{_≡_};
 ghost use mathlib.Core.Bool.{false};
-ghost use Prim.Native.Nat.{_%_, _≤_, max};
+ghost use Prim.Native.Nat.{_*_, _%_, _≤_, max};
+ghost use Rattle.nodefile.specs.Limits.{manyNodes};
 ghost use lib.ListN.{length};
 ghost use Rattle.base.specs.Says.{Says};
 ghost use Rattle.scoping.specs.Scopes.{BadScopes};
@@ -18,7 +19,7 @@ fn larger(a: usize, b: usize) -> usize
 
 // Number 10 of the whole list; notes where each scope number stands.
 pub fn bad_scopes(ns: &[u8], found: &mut [u16; 256]) -> bool
-    requires { ⌜ (length (now ns) % 8 ≡ 0) × (length (now ns) ≤ 16384) × Unset (now found) ⌝ }
+    requires { ⌜ (length (now ns) % 8 ≡ 0) × (length (now ns) ≤ 8 * manyNodes) × Unset (now found) ⌝ }
     ensures { λ r. ⌜ Says r (BadScopes (now (ns .entry))) × (r ≡ false → Found (now (ns .entry)) (now (found .exit))) ⌝ }
 {
     let mut next: u16 = 0;

@@ -8,6 +8,7 @@ ghost use Rattle.shape.specs.Nodes.{Sound};
 ghost use Rattle.lexical.specs.Table.{row, allowed};
 ghost use Rattle.shape.specs.Children.{BadChildren};
 ghost use Rattle.shape.specs.Inside.Code.{Coded, Takes, codeOf, restOf};
+use nodefile::kinds;
 
 // A row of the table is one number, its code: 13 bits a place, the first place lowest. Of a place 5 bits are the lowest kind, 5 the highest,
 // then whether any number may stand there, whether it may be passed over, and whether something must still come.
@@ -22,31 +23,66 @@ const PLACE: u64 = 8192;
 // The code of a row that nothing fills.
 const NEVER: u64 = 258079;
 
+// The rows of the kinds that have children.
+const BLOCK_ROW: u64 = 257248;
+
+const PLAIN_ROW: u64 = 256459;
+
+const ASSIGN_ROW: u64 = 17348166308168;
+
+const MODIFY_ROW: u64 = 2117693768;
+
+const IF_ROW: u64 = 17194936963531;
+
+const FOR_ROW: u64 = 17332377841992;
+
+const DEF_ROW: u64 = 141986985807327496;
+
+const LOAD_ROW: u64 = 257288;
+
+const TUPLE_ROW: u64 = 257352;
+
+const PLACE_TARGET_ROW: u64 = 2100916683;
+
+const LAMBDA_ROW: u64 = 2117697073;
+
+const COMPR_ROW: u64 = 140990132017820143;
+
+const OTHER_ROW: u64 = 257483;
+
+const FOR_CLAUSE_ROW: u64 = 2117693768;
+
+const IF_CLAUSE_ROW: u64 = 258507;
+
+const PARAM_ROW: u64 = 17210693800200;
+
+const TYPE_ROW: u64 = 258507;
+
 // The code of the row of a kind.
 fn code(kind: u64) -> u64
     requires { ⌜ kind < 19 ⌝ }
     ensures { λ r. ⌜ r ≡ codeOf (row kind) ⌝ }
 {
     match kind {
-        0 => 257248,
-        1 => 256459,
-        2 => 17348166308168,
-        3 => 2117693768,
-        4 => 17194936963531,
-        5 => 17332377841992,
-        6 => 141986985807327496,
-        7 => 257288,
+        0 => BLOCK_ROW,
+        1 => PLAIN_ROW,
+        2 => ASSIGN_ROW,
+        3 => MODIFY_ROW,
+        4 => IF_ROW,
+        5 => FOR_ROW,
+        6 => DEF_ROW,
+        7 => LOAD_ROW,
         8 => 31,
-        9 => 257352,
-        10 => 2100916683,
+        9 => TUPLE_ROW,
+        10 => PLACE_TARGET_ROW,
         11 => 31,
-        12 => 2117697073,
-        13 => 140990132017820143,
-        14 => 257483,
-        15 => 2117693768,
-        16 => 258507,
-        17 => 17210693800200,
-        _ => 258507,
+        12 => LAMBDA_ROW,
+        13 => COMPR_ROW,
+        14 => OTHER_ROW,
+        15 => FOR_CLAUSE_ROW,
+        16 => IF_CLAUSE_ROW,
+        17 => PARAM_ROW,
+        _ => TYPE_ROW,
     }
 }
 
@@ -99,7 +135,7 @@ fn kids_allowed(kids: &[u8], kind: u64) -> bool
         return true;
     }
     // A Param may have no children.
-    if kind != 17 {
+    if kind != kinds::PARAM {
         return false;
     }
     if kids.len() == 0 {

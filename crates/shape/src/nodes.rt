@@ -3,6 +3,7 @@ ghost use Rattle.base.specs.Says.{Says};
 ghost use Rattle.nodefile.specs.Kids.{Fits};
 ghost use Rattle.shape.specs.Nodes.{BadNodes};
 ghost use Rattle.shape.specs.Inside.Node.{BadValue, BadNode};
+use nodefile::kinds;
 
 // Whether a part falls into whole nodes, one after the other.
 fn kids_fit(kids: &[u8]) -> bool
@@ -52,7 +53,7 @@ fn bad_node(t: &[u8], names: u64) -> bool
     ensures { λ r. ⌜ Says r (BadNode names (now (t .entry))) ⌝ }
 {
     let kind = nodefile::kind(t);
-    if kind > 18 {
+    if kind > kinds::TYPE {
         return true;
     }
     if nodefile::node_zero(t) != 0 {

@@ -4,7 +4,7 @@ ghost use mathlib.Core.Bool.{true, false, cond, not, _&&_, _||_};
 ghost use Prim.Native.Nat.{_+_, _≤_, _<_};
 ghost use lib.ListN.{length, getD};
 ghost use lib.Dec.{eqb};
-ghost use Rattle.store.specs.Sections.{mem, Long};
+ghost use Rattle.store.specs.Sections.{mem, Long, hiddenAt, manyBindings, manyNames, shownAt, tLength, wLength};
 ghost use Rattle.target.specs.Target.{Again, AgainDone, Fresh, FreshDone, PreTarget, DoneTarget};
 use answer::ScopeId;
 use store::Block;
@@ -13,8 +13,8 @@ use store::State;
 
 // Whether a target makes its name Public.
 fn visibility(t: &[u16], name: usize, marks: Marks) -> bool
-    requires { ⌜ (name < 1024) × (length (now t) ≡ 20864) ⌝ }
-    ensures { λ r. ⌜ r ≡ marks .param || (not (eqb (getD (now (t .entry)) (3072 + name) 0) 1) && (not (marks .load) || eqb (getD (now (t .entry)) 20863 0) 1)) ⌝ }
+    requires { ⌜ (name < manyNames) × (length (now t) ≡ tLength) ⌝ }
+    ensures { λ r. ⌜ r ≡ marks .param || (not (eqb (getD (now (t .entry)) (hiddenAt + name) 0) 1) && (not (marks .load) || eqb (getD (now (t .entry)) shownAt 0) 1)) ⌝ }
 {
     if marks.param {
         return true;
@@ -58,7 +58,7 @@ fn bind_again(
     binds: &mut [u64],
     w: &mut [u32],
 ) -> State
-    requires { ⌜ (2304 ≤ length (now binds)) × (length (now w) ≡ 12544) × Again id at local st (now binds) (now w) ⌝ }
+    requires { ⌜ (manyBindings ≤ length (now binds)) × (length (now w) ≡ wLength) × Again id at local st (now binds) (now w) ⌝ }
     ensures { λ r. ⌜ (r ≡ st) × AgainDone id at local public st (now (binds .entry)) (now (w .entry)) (now (binds .exit)) (now (w .exit)) ⌝ }
 {
     store::bind_again(binds, id, public);
@@ -83,10 +83,10 @@ fn new_local(
 {
     let id = st.bindings;
     let k = st.slots;
-    if id >= 2304 {
+    if id >= answer::BINDINGS {
         return filled(st);
     }
-    if k >= 4096 {
+    if k >= answer::SLOTS {
         return filled(st);
     }
     let num = store::fresh_slot(w, scope.0);
@@ -128,7 +128,7 @@ fn new_module(
     ensures { λ r. ⌜ FreshDone name at 0 false any public st (mem (now (binds .entry)) (now (w .entry)) (now (t .entry))) r (mem (now (binds .exit)) (now (w .exit)) (now (t .exit))) ⌝ }
 {
     let id = st.bindings;
-    if id >= 2304 {
+    if id >= answer::BINDINGS {
         return filled(st);
     }
     let slot = next_module_slot(st);

@@ -47,13 +47,13 @@ fn say_numbers(a: Answer) {
 }
 
 pub fn show(file: &[u8]) {
-    let mut nodes = [0u32; 2048];
-    let mut bindings = [0u64; 2304];
-    let mut module = [0u32; 2304];
-    let mut scopes = [0u32; 256];
-    let mut slots = [0u32; 4096];
-    let mut copies = [0u32; 4096];
-    let mut errors = [0u32; 2048];
+    let mut nodes = [0u32; answer::NODES];
+    let mut bindings = [0u64; answer::BINDINGS];
+    let mut module = [0u32; answer::ENTRIES];
+    let mut scopes = [0u32; answer::SCOPES];
+    let mut slots = [0u32; answer::SLOTS];
+    let mut copies = [0u32; answer::COPIES];
+    let mut errors = [0u32; answer::ERRORS];
     let a = scope::resolve(
         file,
         &mut nodes,
