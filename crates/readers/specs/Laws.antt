@@ -1,0 +1,4 @@
+-- What the proofs, and the theorems, use of these definitions.
+pub mod Room
+pub mod Zero
+pub mod One

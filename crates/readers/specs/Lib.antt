@@ -1,0 +1,5 @@
+pub mod Keys
+pub mod Lists
+pub mod Steps
+pub mod Readers
+pub mod Laws
