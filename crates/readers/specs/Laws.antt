@@ -2,3 +2,8 @@
 pub mod Room
 pub mod Zero
 pub mod One
+pub mod Listed
+pub mod Keyed
+pub mod Meant
+pub mod Counted
+pub mod Together

@@ -1,11 +1,10 @@
 -- What the steps of `readers` say to each other.
 use Prim.Native.Nat.{ℕ, _≤_}
-use mathlib.Core.Bool.{Bool}
 use mathlib.Core.List.{List}
 use lib.ListN.{length}
 use Rattle.nodefile.specs.Layout.{nodeCount, globalCount}
 use Rattle.group.specs.Grouped.{Answers}
-use Rattle.readers.specs.Keys.{keysOf, bindingKeys, globalKeys}
+use Rattle.readers.specs.Keys.{bindingKeys, globalKeys}
 use Rattle.readers.specs.Lists.{Lists, listFull}
 
 -- the nodes of a file have room among the keys, and each has a record

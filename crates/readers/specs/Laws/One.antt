@@ -1,6 +1,6 @@
 -- No second answer fits `Readers`: the number is one, resolving's answer is one, and each clause fixes a whole buffer.
 use Prim.Native.Nat.{ℕ}
-use mathlib.Core.Path.{_≡_, sym, ap, _∙_, subst}
+use mathlib.Core.Path.{_≡_, sym, ap, _∙_}
 use mathlib.Core.List.{List}
 use native.Mathlib.Decide.{ℕ-discrete}
 use Rattle.base.specs.First.{first-one}

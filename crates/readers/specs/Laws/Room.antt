@@ -3,7 +3,7 @@ use Prim.Native.Nat.{ℕ, _≤_}
 use mathlib.Core.Path.{_≡_}
 use mathlib.Core.List.{List}
 use native.Mathlib.Omega.{arith}
-use lib.ListN.{length, length-map}
+use lib.ListN.{length-map}
 use Rattle.lexical.specs.Tree.{Forest}
 use Rattle.lexical.specs.Third.{resolved}
 use Rattle.lexical.specs.Records as rec
