@@ -4,6 +4,7 @@ pub mod Zero
 pub mod One
 pub mod Listed
 pub mod Keyed
+pub mod Classes
 pub mod Meant
 pub mod Counted
 pub mod Together

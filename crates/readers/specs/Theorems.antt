@@ -31,6 +31,7 @@ use Rattle.readers.specs.Laws.One as laws
 use Rattle.readers.specs.Laws.Zero.{zero-resolves}
 use Rattle.readers.specs.Laws.Listed.{listed-from, listed-to, listed-once, listed-rising}
 use Rattle.readers.specs.Laws.Keyed.{keyed-binding, keyed-global, binding-keyed, global-keyed}
+use Rattle.readers.specs.Laws.Classes.{other, apart, classed}
 use Rattle.readers.specs.Laws.Meant as meant
 use Rattle.readers.specs.Laws.Together as sums
 
@@ -74,7 +75,7 @@ module _ {bs : List ℕ} {b b′ : Buffers} {l l′ : Lists} {a : Answer} (r : R
   -- Every Ident with a class stands in a list, its binding's or its global's;
   pub somewhere : (x : ℕ) → Ident bs x → (classOf b′ x ≡ 0 → ⊥)
       → ((bindingOf b′ x < a .bindings) × OfBinding l′ (bindingOf b′ x) x) ⊎ ((slotOf b′ x < globalCount bs) × OfGlobal l′ (slotOf b′ x) x)
-  somewhere x i n = elim (meant.classed b′ x n) [
+  somewhere x i n = elim (classed b′ x n) [
     | inl c ↦
         let t : ToBinding bs b′ (bindingOf b′ x) x = record { ident = i; class = c; binding = refl } in
         let h = meant.binding-known resolves-too z root reads (bindingOf b′ x) x t in
@@ -88,13 +89,13 @@ module _ {bs : List ℕ} {b b′ : Buffers} {l l′ : Lists} {a : Answer} (r : R
   -- one without a class in none;
   pub in-no-list : (x : ℕ) → classOf b′ x ≡ 0 → ((k : ℕ) → k < a .bindings → OfBinding l′ k x → ⊥) × ((g : ℕ) → g < globalCount bs → OfGlobal l′ g x → ⊥)
   in-no-list x e = (
-    (λ k h s. meant.other (ap ofBinding (sym e) ∙ of-binding k x h .0 s .class)),
-    λ g h s. meant.other (ap ofGlobal (sym e) ∙ of-global g x h .0 s .class),
+    (λ k h s. other (ap ofBinding (sym e) ∙ of-binding k x h .0 s .class)),
+    λ g h s. other (ap ofGlobal (sym e) ∙ of-global g x h .0 s .class),
   )
 
   -- no node stands in a binding's list and in a global's,
   pub in-one-list : (k g x : ℕ) → k < a .bindings → g < globalCount bs → OfBinding l′ k x → OfGlobal l′ g x → ⊥
-  in-one-list k g x h i s t = meant.apart (classOf b′ x) (of-binding k x h .0 s .class) (of-global g x i .0 t .class)
+  in-one-list k g x h i s t = apart (classOf b′ x) (of-binding k x h .0 s .class) (of-global g x i .0 t .class)
 
   -- and none stands in two bindings' lists or two globals', or twice in one.
   pub one-place : (j k x : ℕ) → j < a .bindings → k < a .bindings → (s : OfBinding l′ j x) (t : OfBinding l′ k x) → (j ≡ k) × (s .place ≡ t .place)

@@ -5,13 +5,10 @@
 --     means-global, global-means      a global, where the meaning is that global
 use Prim.Native.Nat.{ℕ, _<_}
 use mathlib.Core.Path.{_≡_, refl, sym, ap, _∙_, subst}
-use mathlib.Core.Logic.{_⊎_, inl, inr}
 use mathlib.Core.Bool.{Bool, true, false}
 use mathlib.Core.List.{List, [], _∷_}
 use mathlib.Core.Option.{some}
 use native.Mathlib.Omega.{arith}
-use native.Mathlib.Decide.{ℕ-discrete}
-use borrow.Author.Tests.{eqb-true, eq-eqb}
 use lib.ListN.{getD, length-map}
 use Rattle.base.specs.UpTo.{at-some, upTo-length}
 use Rattle.lexical.specs.Places.{at-below}
@@ -28,8 +25,6 @@ use Rattle.nodefile.specs.FileOf.{fileOf}
 use Rattle.nodefile.specs.Listed.{valueAt}
 use Rattle.answer.specs.declared.Answer.{Answer}
 use Rattle.answer.specs.Buffers.{Buffers}
-use Rattle.answer.specs.Laws.{part-lt}
-use Rattle.answer.specs.Records.{nodeWidths}
 use Rattle.scope.specs.Answer.{Resolves}
 use Rattle.scope.specs.Laws.Readies.{ready-distinct}
 use Rattle.scope.specs.Laws.Zero.{zero-ready, zero-slots}
@@ -37,24 +32,8 @@ use Rattle.promise.specs.Shown.{nodeFields, sourceOf, localOf, BindingShown, Sh
 use Rattle.promise.specs.Theorems.{T1}
 use Rattle.promise.specs.Laws.Records.{binding-read}
 use Rattle.readers.specs.Keys.{ofBinding, ofGlobal}
+use Rattle.readers.specs.Laws.Classes.{other}
 use Rattle.readers.specs.Shown.{classOf, slotOf, bindingOf, Ident, ToBinding, ToGlobal, Means}
-
--- no record has two classes
-pub other : {P : Type 0} → false ≡ true → P
-other e = absurd (let z : _≡_ {A = ℕ} 0 1 = cc in omega arith)
-
-pub apart : (c : ℕ) {P : Type 0} → ofBinding c ≡ true → ofGlobal c ≡ true → P
-apart c e q = let h : c ≡ 3 = eqb-true _ _ q in other (ap ofBinding (sym h) ∙ e)
-
--- a class is a binding's or a global's, or 0
-pub classed : (b : Buffers) (x : ℕ) → (classOf b x ≡ 0 → ⊥) → (ofBinding (classOf b x) ≡ true) ⊎ (ofGlobal (classOf b x) ≡ true)
-classed b x n = go (classOf b x) n (part-lt nodeWidths 0 (getD (b .nodes) x 0))
-  where
-    go : (c : ℕ) → (c ≡ 0 → ⊥) → c < 4 → (ofBinding c ≡ true) ⊎ (ofGlobal c ≡ true)
-    go c n h = elim (ℕ-discrete c 3) [
-      | yes e ↦ inr (eq-eqb _ _ e)
-      | no d ↦ elim (ℕ-discrete c 1) [ yes e ↦ inl (rw e refl) | no f ↦ let e : c ≡ 2 = omega arith in inl (rw e refl) ]
-    ]
 
 bit-set : (l : Bool) → rec.bit l ≡ 1 → l ≡ true
 unfolding rec.bit
