@@ -41,4 +41,7 @@ void check_spellings(const uint8_t *file, size_t length, uint64_t judged);
 /* The records of an accepted file hang together. */
 void check_records(const uint8_t *file, size_t length, struct vaib_answer a, const struct lent *l);
 
+/* The readers of each binding and global are those that the records name; the rest of the answer is as resolving gave it. */
+void check_readers(const uint8_t *file, size_t length, struct vaib_answer a, const struct vaib_buffers *records);
+
 #endif

@@ -95,6 +95,7 @@ int LLVMFuzzerTestOneInput(const uint8_t *data, size_t length) {
     CHECK(a.number == judged || (judged == 0 && a.number == VAIB_TOO_MANY_SLOTS));
     check_again(file, length, a, &records);
     check_short(file, length);
+    check_readers(file, length, a, &records);
     check_spellings(file, length, judged);
     check_listing(file, length, a.number);
     CHECK(length == 0 || memcmp(file, data, length) == 0);

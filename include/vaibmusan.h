@@ -35,7 +35,8 @@ enum vaib_full_length {
     VAIB_SCOPES = 256,
     VAIB_SLOTS = 4096,
     VAIB_COPIES = 4096,
-    VAIB_ERRORS = 2048
+    VAIB_ERRORS = 2048,
+    VAIB_GLOBALS = 256
 };
 
 /* No accepted file is longer; more bytes than that get the number that their first 37,389 get. */
@@ -90,6 +91,26 @@ size_t vaib_scopes_around(const uint8_t *file, size_t length, size_t node, uint3
 
 /* For each Def's and Lambda's scope, at its number in outer, the scope directly around it; zeros elsewhere. 256 places hold them all. */
 void vaib_outer_scopes(const uint8_t *file, size_t length, uint32_t *outer, size_t outer_length);
+
+/* Every reader of a variable: vaib_resolve, and for each binding the Idents that are resolved to it, in node order. Binding k's stand in
+ * list from starts[k] on, counts[k] of them; starts[k] is the sum of the counts before. Each global has the same by its number, in the
+ * other three. Behind what is counted, and after a refusal everywhere, there are zeros. Number 13 if starts or counts has fewer than
+ * VAIB_BINDINGS places, global_starts or global_counts fewer than VAIB_GLOBALS, or a list fewer than VAIB_NODES; it is asked after 12. */
+void vaib_readers(const uint8_t *file, size_t length,
+                  uint32_t *nodes, size_t nodes_length,
+                  uint64_t *bindings, size_t bindings_length,
+                  uint32_t *module, size_t module_length,
+                  uint32_t *scopes, size_t scopes_length,
+                  uint32_t *slots, size_t slots_length,
+                  uint32_t *copies, size_t copies_length,
+                  uint32_t *errors, size_t errors_length,
+                  uint32_t *starts, size_t starts_length,
+                  uint32_t *counts, size_t counts_length,
+                  uint32_t *list, size_t list_length,
+                  uint32_t *global_starts, size_t global_starts_length,
+                  uint32_t *global_counts, size_t global_counts_length,
+                  uint32_t *global_list, size_t global_list_length,
+                  struct vaib_answer *answer);
 
 /* Where a local slot has its value from. around: the scopes around a place, outermost first (vaib_scopes_around); slot: a slot of
  * the last of them. As long as the first copy record for that scope and slot says so, the value comes from its parent slot in the

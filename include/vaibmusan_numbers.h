@@ -18,7 +18,8 @@ enum vaib_number {
     VAIB_TOO_DEEP = 9,
     VAIB_BAD_SCOPES = 10,
     VAIB_BAD_PARAMS = 11,
-    VAIB_TOO_MANY_SLOTS = 12
+    VAIB_TOO_MANY_SLOTS = 12,
+    VAIB_SHORT_READERS = 13
 };
 
 /* A number's condition in one line, without a line feed, as document 01's table has it. The text is never freed. */
@@ -37,6 +38,7 @@ static inline const char *vaib_number_text(uint64_t number) {
     case VAIB_BAD_SCOPES: return "scope numbers are not 1..S each once, or S above 255";
     case VAIB_BAD_PARAMS: return "two Params of one Def or Lambda with one name";
     case VAIB_TOO_MANY_SLOTS: return "all scopes together would need more than 4,096 slots";
+    case VAIB_SHORT_READERS: return "a buffer of the readers is shorter than its full length";
     default: return "no number of these headers";
     }
 }

@@ -26,6 +26,26 @@ static inline struct vaib_answer vaib_resolve_into(const uint8_t *file, size_t l
     return answer;
 }
 
+/* The readers of every binding and every global. */
+struct vaib_reader_lists {
+    uint32_t starts[VAIB_BINDINGS];
+    uint32_t counts[VAIB_BINDINGS];
+    uint32_t list[VAIB_NODES];
+    uint32_t global_starts[VAIB_GLOBALS];
+    uint32_t global_counts[VAIB_GLOBALS];
+    uint32_t global_list[VAIB_NODES];
+};
+
+/* vaib_readers into these. Of binding k: r->counts[k] Idents, the first at r->list[r->starts[k]]. */
+static inline struct vaib_answer vaib_readers_into(const uint8_t *file, size_t length, struct vaib_buffers *b, struct vaib_reader_lists *r) {
+    struct vaib_answer answer;
+    vaib_readers(file, length, b->nodes, VAIB_NODES, b->bindings, VAIB_BINDINGS, b->module, VAIB_MODULE, b->scopes,
+                 VAIB_SCOPES, b->slots, VAIB_SLOTS, b->copies, VAIB_COPIES, b->errors, VAIB_ERRORS, r->starts, VAIB_BINDINGS,
+                 r->counts, VAIB_BINDINGS, r->list, VAIB_NODES, r->global_starts, VAIB_GLOBALS, r->global_counts, VAIB_GLOBALS,
+                 r->global_list, VAIB_NODES, &answer);
+    return answer;
+}
+
 /* The field of so many bits that ends `low` bits above a record's lowest. */
 static inline unsigned vaib_field(uint64_t record, unsigned low, unsigned width) { return (unsigned)(record >> low & ((1u << width) - 1)); }
 

@@ -179,6 +179,13 @@ class Program(unittest.TestCase):
             self.assertEqual(self.run_program("--html", page).returncode, 0)
             self.assertTrue(page.read_text().startswith("<!doctype html>"))
 
+    def test_readers_come_from_a_command(self):
+        with tempfile.TemporaryDirectory() as folder:
+            one, other = Path(folder, "marked.html"), Path(folder, "asked.html")
+            self.assertEqual(self.run_program("--html", one).returncode, 0)
+            self.assertEqual(self.run_program("--html", other, "--readers", f"{TOP / 'tests/words/vaib'} readers").returncode, 0)
+            self.assertEqual(one.read_text(), other.read_text())
+
     def test_a_refusal_writes_no_page(self):
         with tempfile.TemporaryDirectory() as folder:
             page, nodes, listing = (Path(folder, name) for name in ("page.html", "nodes", "listing"))

@@ -29,13 +29,18 @@ def link(target, text):
 class Cards:
     """A card for each meaning that the page shows, made when it is first asked for."""
 
-    def __init__(self, script):
+    def __init__(self, script, readers=None):
+        """`readers`: the nodes that read each variable, by its group; without it they are those that are marked."""
         self.script, self.resolved = script, script.resolved
         self.made = {}
         self.readers, self.setters = {}, {}
         for mark in self.resolved.marks:
             held = self.setters if mark.sets else self.readers
             held.setdefault(self.group(mark.meaning, mark.node), []).append(mark)
+        marked = {mark.node: mark for mark in self.resolved.marks}
+        for group, nodes in (readers or {}).items():
+            if nodes:
+                self.readers[group] = sorted((marked[node] for node in nodes), key=lambda mark: mark.offset)
 
     def group(self, meaning, node=None):
         """What all names of one variable have in common; so have errors of one name and kind."""

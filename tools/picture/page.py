@@ -36,9 +36,9 @@ class Opener:
     end: int
 
 
-def page_of(script, title):
-    """The page's text."""
-    cards = Cards(script)
+def page_of(script, title, readers=None):
+    """The page's text; `readers`: the nodes that read each variable, where somebody was asked."""
+    cards = Cards(script, readers)
     lines, slots = list(code(script, cards)), list(tables(script, cards))  # what has cards, before all cards
     title = escape(title)
     return "\n".join([

@@ -2,6 +2,7 @@
 mod say_answer;
 mod say_judge;
 mod say_list;
+mod say_readers;
 mod usage;
 mod word;
 
@@ -19,6 +20,7 @@ fn run(w: Word) {
         Word::List => say_list::show(&space[..n]),
         Word::Judge => say_judge::show(&space[..n]),
         Word::Answer => say_answer::show(&space[..n]),
+        Word::Readers => say_readers::show(&space[..n]),
     }
 }
 

@@ -4,7 +4,7 @@
 pub fn line(to: i32) {
     io::write_all(
         to,
-        b"usage: vaib list | judge | answer < NODE-FILE   (vaib --help says more)\n",
+        b"usage: vaib list | judge | answer | readers < NODE-FILE   (vaib --help says more)\n",
     );
 }
 
@@ -20,7 +20,11 @@ pub fn help(to: i32) {
     );
     io::write_all(
         to,
-        b"  answer   the answer and its seven buffers as 77,856 bytes\n\n",
+        b"  answer   the answer and its seven buffers as 77,856 bytes\n",
+    );
+    io::write_all(
+        to,
+        b"  readers  the Idents that read each binding and each global\n\n",
     );
     io::write_all(
         to,

@@ -5,6 +5,7 @@ pub enum Word {
     List,
     Judge,
     Answer,
+    Readers,
 }
 
 // What the command line asks for.
@@ -23,6 +24,9 @@ pub fn read(text: &[u8]) -> Asked {
     }
     if check::same(text, b"answer") {
         return Asked::Run(Word::Answer);
+    }
+    if check::same(text, b"readers") {
+        return Asked::Run(Word::Readers);
     }
     if check::same(text, b"--help") {
         return Asked::Help;

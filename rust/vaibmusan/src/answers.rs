@@ -56,9 +56,14 @@ pub struct Answers {
 /// The smallest of document 01's numbers whose condition holds; `answers` is empty then. An Ident that means nothing is no refusal:
 /// [`Answers::errors`] has it.
 pub fn resolve(file: &[u8], answers: &mut Answers) -> Result<Counts, Refusal> {
+    let a = ffi::resolve(file, &mut answers.buffers);
+    keep(file, a, answers)
+}
+
+/// What was answered of a file: the counts and a copy of it, or nothing.
+pub(crate) fn keep(file: &[u8], a: ffi::Answer, answers: &mut Answers) -> Result<Counts, Refusal> {
     answers.counts = Counts::default();
     answers.file.clear();
-    let a = ffi::resolve(file, &mut answers.buffers);
     Refusal::check(a.number)?;
     answers.counts = Counts { bindings: a.bindings, module: a.module, slots: a.slots, copies: a.copies, errors: a.errors };
     answers.file.extend_from_slice(file);

@@ -45,6 +45,23 @@ impl Buffers {
     }
 }
 
+/// The readers' lists, in their full lengths.
+#[derive(Clone)]
+pub struct Lists {
+    pub starts: [u32; 2304],
+    pub counts: [u32; 2304],
+    pub list: [u32; 2048],
+    pub global_starts: [u32; 256],
+    pub global_counts: [u32; 256],
+    pub global_list: [u32; 2048],
+}
+
+impl Lists {
+    pub fn new() -> Box<Self> {
+        Box::new(Lists { starts: [0; 2304], counts: [0; 2304], list: [0; 2048], global_starts: [0; 256], global_counts: [0; 256], global_list: [0; 2048] })
+    }
+}
+
 extern "C" {
     fn vaib_judge(file: *const u8, length: usize) -> u64;
     fn vaib_spelling(file: *const u8, length: usize, name: usize, stretch: *mut Stretch);
@@ -65,6 +82,37 @@ extern "C" {
         copies_length: usize,
         errors: *mut u32,
         errors_length: usize,
+        answer: *mut Answer,
+    );
+    fn vaib_readers(
+        file: *const u8,
+        length: usize,
+        nodes: *mut u32,
+        nodes_length: usize,
+        bindings: *mut u64,
+        bindings_length: usize,
+        module: *mut u32,
+        module_length: usize,
+        scopes: *mut u32,
+        scopes_length: usize,
+        slots: *mut u32,
+        slots_length: usize,
+        copies: *mut u32,
+        copies_length: usize,
+        errors: *mut u32,
+        errors_length: usize,
+        starts: *mut u32,
+        starts_length: usize,
+        counts: *mut u32,
+        counts_length: usize,
+        list: *mut u32,
+        list_length: usize,
+        global_starts: *mut u32,
+        global_starts_length: usize,
+        global_counts: *mut u32,
+        global_counts_length: usize,
+        global_list: *mut u32,
+        global_list_length: usize,
         answer: *mut Answer,
     );
     fn vaib_scopes_around(file: *const u8, length: usize, node: usize, around: *mut u32, around_length: usize) -> usize;
@@ -106,6 +154,45 @@ pub fn resolve(file: &[u8], b: &mut Buffers) -> Answer {
             b.copies.len(),
             b.errors.as_mut_ptr(),
             b.errors.len(),
+            &mut answer,
+        )
+    }
+    answer
+}
+
+pub fn readers(file: &[u8], b: &mut Buffers, l: &mut Lists) -> Answer {
+    let mut answer = Answer::default();
+    // SAFETY: pointers and lengths of a slice and of thirteen arrays that stand beside each other, and a struct of this function's.
+    unsafe {
+        vaib_readers(
+            file.as_ptr(),
+            file.len(),
+            b.nodes.as_mut_ptr(),
+            b.nodes.len(),
+            b.bindings.as_mut_ptr(),
+            b.bindings.len(),
+            b.module.as_mut_ptr(),
+            b.module.len(),
+            b.scopes.as_mut_ptr(),
+            b.scopes.len(),
+            b.slots.as_mut_ptr(),
+            b.slots.len(),
+            b.copies.as_mut_ptr(),
+            b.copies.len(),
+            b.errors.as_mut_ptr(),
+            b.errors.len(),
+            l.starts.as_mut_ptr(),
+            l.starts.len(),
+            l.counts.as_mut_ptr(),
+            l.counts.len(),
+            l.list.as_mut_ptr(),
+            l.list.len(),
+            l.global_starts.as_mut_ptr(),
+            l.global_starts.len(),
+            l.global_counts.as_mut_ptr(),
+            l.global_counts.len(),
+            l.global_list.as_mut_ptr(),
+            l.global_list.len(),
             &mut answer,
         )
     }

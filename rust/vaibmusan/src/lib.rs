@@ -49,6 +49,7 @@ mod listing;
 mod lists;
 mod nodes;
 mod pool;
+mod readers;
 mod records;
 mod refusal;
 mod stack;
@@ -59,6 +60,7 @@ pub use answers::{resolve, Answers, Counts, Raw};
 pub use ids::{BindingId, LocalSlotId, ModuleSlotId, Name, ScopeId};
 pub use limits::TooLarge;
 pub use listing::{listing, Listing};
+pub use readers::{readers, Readers};
 pub use records::{
     AssignCount, Binding, CopySlotFromParent, ErrorKind, Home, ModuleEntry, NameError, NamedSlot, NodeAnswer, Resolved, Scope, Slot, Visibility,
 };

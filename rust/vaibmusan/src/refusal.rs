@@ -60,6 +60,7 @@ refusals! {
     Scopes = 10, "scope numbers are not 1..S each once, or S above 255";
     Params = 11, "two Params of one Def or Lambda with one name";
     Slots = 12, "all scopes together would need more than 4,096 slots";
+    ShortReaders = 13, "a buffer of the readers is shorter than its full length";
 }
 
 impl fmt::Display for Refusal {

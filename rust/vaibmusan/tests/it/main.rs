@@ -3,6 +3,7 @@ mod answers;
 mod files;
 mod limits;
 mod listing;
+mod readers;
 mod stack;
 mod trees;
 
