@@ -1,8 +1,8 @@
 // Packed fields, most significant bit first: reading one, and writing one.
 ghost use mathlib.Core.Path.{_≡_};
-ghost use Prim.Native.Nat.{_+_, _^_, _≤_, _<_};
-ghost use lib.ListN.{getD};
-ghost use Rattle.bits.specs.Field.{Field};
+ghost use Prim.Native.Nat.{_+_, _*_, _/_, _^_, _≤_, _<_};
+ghost use lib.ListN.{length};
+ghost use Rattle.bits.specs.Field.{bitOf, fieldOf, Field};
 ghost use Rattle.bits.specs.Digits.{splice};
 ghost use Rattle.bits.specs.Put.{Put};
 
@@ -14,14 +14,39 @@ fn power(k: usize) -> u64
     1 << k
 }
 
-// Byte i, or 0 past the end.
-fn byte(s: &[u8], i: usize) -> u64
-    ensures { λ r. ⌜ (r ≡ getD (now (s .entry)) i 0) × (r < 256) ⌝ }
+// A byte as a wide number.
+fn wide(x: u8) -> u64
+    ensures { λ r. ⌜ r ≡ x ⌝ }
 {
-    if i < s.len() {
-        return s[i] as u64;
+    x as u64
+}
+
+// Bit i of s: in byte i / 8, counted from its most significant bit.
+fn bit(s: &[u8], i: usize) -> u64
+    requires { ⌜ i < 8 * length (now s) ⌝ }
+    ensures { λ r. ⌜ r ≡ bitOf (now (s .entry)) i ⌝ }
+{
+    (wide(s[i / 8]) >> (7 - i % 8)) % 2
+}
+
+// The width bits of s from bit at on, one by one, the most significant first (docs/DRAWING.md).
+fn read(s: &[u8], at: usize, width: usize) -> u64
+    requires { ⌜ (width ≤ 32) × (at < 8) × (at + width ≤ 8 * length (now s)) ⌝ }
+    ensures { λ r. ⌜ r ≡ fieldOf (now (s .entry)) at width ⌝ }
+{
+    let mut acc: u64 = 0;
+    for k in 0..width {
+        acc = acc * 2 + bit(s, at + k);
     }
-    0
+    acc
+}
+
+// How many bytes the bits before bit at + width take; that sum itself may not fit.
+fn reach(at: usize, width: usize) -> usize
+    requires { ⌜ width ≤ 32 ⌝ }
+    ensures { λ r. ⌜ r ≡ (at + width + 7) / 8 ⌝ }
+{
+    at / 8 + (at % 8 + width + 7) / 8
 }
 
 // The field of width bits that starts at bit at; bits past the end are 0. A field wider than 32 bits reads as 0.
@@ -31,16 +56,18 @@ pub fn field(s: &[u8], at: usize, width: usize) -> u64
     if width > 32 {
         return 0;
     }
+    // it starts in byte first, after skip bits of it
     let first = at / 8;
     let skip = at % 8;
-    let count = (skip + width + 7) / 8;
-    let mut acc: u64 = 0;
-    let mut n: usize = 0;
-    while n < count {
-        acc = acc * 256 + byte(s, first + n);
-        n += 1;
+    if reach(at, width) <= s.len() {
+        return read(&s[first..], skip, width);
     }
-    acc / power(8 * count - (skip + width)) % power(width)
+    if s.len() <= first {
+        return 0;
+    }
+    // s ends inside the field: the bits that are there, then zeros
+    let n = 8 * (s.len() - first) - skip;
+    read(&s[first..], skip, n) << (width - n)
 }
 
 // The byte b, with the n bits that have j bits after them replaced by the last n bits of v.

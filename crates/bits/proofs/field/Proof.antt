@@ -1,121 +1,119 @@
--- `field` reads the bytes that the field touches as one number, and cuts the field out of it.
-use Prim.Native.Nat.{ℕ, _+_, _*_, _≤_, _<_, _-_, _/_, _%_}
-use mathlib.Core.Path.{_≡_, refl, sym, ap, _∙_}
+-- `field` reads the bits from the byte on in which the field starts. Where the bytes end before the field, zeros follow.
+use Prim.Native.Nat.{ℕ, _+_, _*_, _-_, _/_, _%_, _^_, _≤_}
+use mathlib.Core.Path.{_≡_, sym, ap, _∙_}
+use mathlib.Core.List.{List}
 use native.Mathlib.Omega.{arith}
-use native.Mathlib.Numerals.{add-one}
-use lib.Pow.{pow-pos}
-use lib.ListN.{getD}
+use native.Mathlib.Nat.{add-zero, mod-eq-of-lt}
+use borrow.Author.Needs.{needs}
+use lib.ListN.{length, drop}
+use Rattle.base.specs.Parts.{part-from}
 use Rattle.bits.specs.Field.{fieldOf}
-use Rattle.bits.specs.FieldLaws.{field-is, field-wide, field-lt-32, field-more, field-inner}
+use Rattle.bits.specs.FieldLaws.{field-is, field-wide, field-lt-32, field-split, field-past, field-drop}
 use Rattle.bits.proofs.field.Statement.{statement}
 use Rattle.bits.proofs.field.Tie as tie
 
-abbrev Inv-loop : tie.InvT-loop
-Inv-loop s at width first skip count acc₀ n₀ acc n = (n ≤ count) × (acc ≡ fieldOf s (8 * first) (8 * n))
+-- a field counted from the byte in which it starts
+from-first : (s : List ℕ) (at w : ℕ) → fieldOf (drop (at / 8) s) (at % 8) w ≡ fieldOf s at w
+from-first s at w =
+    let e : 8 * (at / 8) + at % 8 ≡ at = omega arith in
+    field-drop s (at / 8) (at % 8) w ∙ ap (λ (x : ℕ). fieldOf s x w) e
 
-abbrev μ-loop : tie.MeasureT-loop
-μ-loop s at width first skip count acc₀ n₀ acc n = count - n
+-- where the list ends after the first n bits of a field, zeros follow them
+cut-off : (s : List ℕ) (at n w : ℕ) → n ≤ w → 8 * length s ≤ at + n → fieldOf s at w ≡ fieldOf s at n * 2 ^ (w - n)
+cut-off s at n w h e =
+    let d : n + (w - n) ≡ w = omega arith in
+    ap (fieldOf s at) (sym d)
+    ∙ field-split s at n (w - n)
+    ∙ ap (λ (x : ℕ). fieldOf s at n * 2 ^ (w - n) + x) (field-past s (at + n) (w - n) e)
+    ∙ add-zero (fieldOf s at n * 2 ^ (w - n))
 
--- what the loop has read so far fits 32 bits
-below : (c : tie.In-loop Inv-loop μ-loop) → c .before .loop .acc < 4294967296
-below c = rw (c .before .loop .inv .1) (field-lt-32 _ _ _ (omega arith))
-
-returns : tie.Need-returns Inv-loop μ-loop
+returns : tie.Need-returns
 returns c = field-wide _ _ _ (omega arith)
 
-add-count : tie.Need-add-count Inv-loop μ-loop
-add-count c = omega arith
+reach-requires : tie.Need-reach-requires
+reach-requires c κs = search needs
 
-add-count-2 : tie.Need-add-count-2 Inv-loop μ-loop
-add-count-2 c = omega arith
+sub-read : tie.Need-sub-read
+sub-read c = search needs
 
-loop-holds : tie.Need-loop-holds Inv-loop μ-loop
-unfolding fieldOf
-loop-holds c = (omega arith, refl)
+part-read-start : tie.Need-part-read-start
+part-read-start c = search needs
 
-mul-acc : tie.Need-mul-acc Inv-loop μ-loop
-mul-acc c = omega (arith, below c)
+part-read-end : tie.Need-part-read-end
+part-read-end c = search needs
 
-add-byte : tie.Need-add-byte Inv-loop μ-loop
-add-byte c = omega arith
+read-requires : tie.Need-read-requires
+read-requires c κs = search needs
 
-byte-requires : tie.Need-byte-requires Inv-loop μ-loop
-byte-requires c κs = tt
-
-add-acc : tie.Need-add-acc Inv-loop μ-loop
-add-acc c = omega (arith, below (c .before))
-
-add-n : tie.Need-add-n Inv-loop μ-loop
-add-n c = omega arith
-
-loop-less : tie.Need-loop-less Inv-loop μ-loop
-loop-less c = omega arith
-
-loop-again : tie.Need-loop-again Inv-loop μ-loop
-loop-again c =
-    let l = c .before .before in
-    let s = l .before .before .before .args .s .now in
-    let a = l .before .before .before .args .at / 8 in
-    let n = l .loop .n in
-    let b : getD s (a + n) 0 < 256 = omega (arith, c .byte .ensures) in
-    (omega arith, rw (add-one, l .loop .inv .1, c .byte .ensures .0) (sym (field-more s a n b)))
-
-mul-power : tie.Need-mul-power Inv-loop μ-loop
-mul-power c = omega arith
-
-add-power : tie.Need-add-power Inv-loop μ-loop
-add-power c = omega arith
-
-sub-power : tie.Need-sub-power Inv-loop μ-loop
-sub-power c = omega arith
-
-power-requires : tie.Need-power-requires Inv-loop μ-loop
-power-requires c κs = omega arith
-
-div-result : tie.Need-div-result Inv-loop μ-loop
-div-result c = rw (c .power .ensures) (pow-pos _)
-
-power-requires-2 : tie.Need-power-requires-2 Inv-loop μ-loop
-power-requires-2 c κs = omega arith
-
-rem-result : tie.Need-rem-result Inv-loop μ-loop
-rem-result c = rw (c .power2 .ensures) (pow-pos _)
-
-returns-2 : tie.Need-returns-2 Inv-loop μ-loop
+returns-2 : tie.Need-returns-2
 returns-2 c =
-    let l = c .before .before .before in
-    let a = l .before .before .before .args in
+    let a = c .before .before .before .before .before .before .args in
+    let p = part-from (a .s .now) (a .at / 8) in
+    field-is (a .s .now) (a .at) (a .width) _ (omega arith)
+    (c .read .ensures ∙ ap (λ (t : List ℕ). fieldOf t (a .at % 8) (a .width)) p ∙ from-first (a .s .now) (a .at) (a .width))
+
+returns-3 : tie.Need-returns-3
+returns-3 c =
+    let a = c .before .before .before .before .before .args in
+    field-is (a .s .now) (a .at) (a .width) _ (omega arith) (sym (field-past (a .s .now) (a .at) (a .width) (omega arith)))
+
+sub-n : tie.Need-sub-n
+sub-n c = search needs
+
+mul-n : tie.Need-mul-n
+mul-n c = search needs
+
+sub-n-2 : tie.Need-sub-n-2
+sub-n-2 c = search needs
+
+sub-read-2 : tie.Need-sub-read-2
+sub-read-2 c = search needs
+
+part-read-start-2 : tie.Need-part-read-start-2
+part-read-start-2 c = search needs
+
+part-read-end-2 : tie.Need-part-read-end-2
+part-read-end-2 c = search needs
+
+read-requires-2 : tie.Need-read-requires-2
+read-requires-2 c κs = search needs
+
+sub-result : tie.Need-sub-result
+sub-result c = search needs
+
+shl-result : tie.Need-shl-result
+shl-result c = search needs
+
+returns-4 : tie.Need-returns-4
+returns-4 c =
+    let a = c .before .before .before .before .before .before .before .args in
     let s = a .s .now in
-    let at = a .at in
-    let w = a .width in
-    let v = 8 * ((at % 8 + w + 7) / 8) - (at % 8 + w) in
-    let e : 8 * l .loop .n ≡ at % 8 + w + v = omega arith in
-    let d : 8 * (at / 8) + at % 8 ≡ at = omega arith in
-    field-is s at w _ (omega arith)
-    (rw (c .before .power .ensures, c .power2 .ensures, l .loop .inv .1, e) (sym (field-inner s (8 * (at / 8)) (at % 8) w v) ∙ ap (λ (x : ℕ). fieldOf s x w) d))
+    let n = 8 * (length s - a .at / 8) - a .at % 8 in
+    let p = part-from s (a .at / 8) in
+    let e = c .read2 .ensures ∙ ap (λ (t : List ℕ). fieldOf t (a .at % 8) n) p ∙ from-first s (a .at) n in
+    let z = cut-off s (a .at) n (a .width) (omega arith) (omega arith) in
+    field-is s (a .at) (a .width) _ (omega arith)
+    (rw (e, ← z) (mod-eq-of-lt (omega (arith, field-lt-32 s (a .at) (a .width) (omega arith)))))
 
 pub field-spec : {M : Type 1} → statement M
 field-spec =
     tie.close
     (tie.spec
-    Inv-loop
-    μ-loop
     returns
-    add-count
-    add-count-2
-    loop-holds
-    mul-acc
-    add-byte
-    byte-requires
-    add-acc
-    add-n
-    loop-less
-    loop-again
-    mul-power
-    add-power
-    sub-power
-    power-requires
-    div-result
-    power-requires-2
-    rem-result
-    returns-2)
+    reach-requires
+    sub-read
+    part-read-start
+    part-read-end
+    read-requires
+    returns-2
+    returns-3
+    sub-n
+    mul-n
+    sub-n-2
+    sub-read-2
+    part-read-start-2
+    part-read-end-2
+    read-requires-2
+    sub-result
+    shl-result
+    returns-4)
