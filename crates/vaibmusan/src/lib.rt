@@ -5,6 +5,8 @@ ghost use lib.ListN.{length};
 ghost use Rattle.judge.specs.Cond.{Judged};
 ghost use Rattle.answer.specs.Buffers.{buffers};
 ghost use Rattle.scope.specs.Answer.{Resolves};
+ghost use Rattle.readers.specs.Lists.{lists};
+ghost use Rattle.readers.specs.Readers.{Readers};
 ghost use Rattle.around.specs.Scopes.{scopesAt, Holds};
 ghost use Rattle.around.specs.Outer.{outerTable};
 ghost use Rattle.follow.specs.Place.{followed};
@@ -86,6 +88,45 @@ pub extern "C" fn vaib_resolve(
     ensures { λ _. ⌜ Resolves (now (file .entry)) (buffers (now (nodes .entry)) (now (bindings .entry)) (now («module» .entry)) (now (scopes .entry)) (now (slots .entry)) (now (copies .entry)) (now (errors .entry))) (now (answer .exit)) (buffers (now (nodes .exit)) (now (bindings .exit)) (now («module» .exit)) (now (scopes .exit)) (now (slots .exit)) (now (copies .exit)) (now (errors .exit))) ⌝ }
 {
     *answer = scope::resolve(file, nodes, bindings, module, scopes, slots, copies, errors);
+}
+
+// The file resolved, and the Idents that are resolved to each binding and to each global.
+#[no_mangle]
+pub extern "C" fn vaib_readers(
+    file: &[u8],
+    nodes: &mut [u32],
+    bindings: &mut [u64],
+    module: &mut [u32],
+    scopes: &mut [u32],
+    slots: &mut [u32],
+    copies: &mut [u32],
+    errors: &mut [u32],
+    starts: &mut [u32],
+    counts: &mut [u32],
+    list: &mut [u32],
+    global_starts: &mut [u32],
+    global_counts: &mut [u32],
+    global_list: &mut [u32],
+    answer: &mut Answer,
+)
+    ensures { λ _. ⌜ Readers (now (file .entry)) (buffers (now (nodes .entry)) (now (bindings .entry)) (now («module» .entry)) (now (scopes .entry)) (now (slots .entry)) (now (copies .entry)) (now (errors .entry))) (lists (now (starts .entry)) (now (counts .entry)) (now (list .entry)) (now («global_starts» .entry)) (now («global_counts» .entry)) (now («global_list» .entry))) (now (answer .exit)) (buffers (now (nodes .exit)) (now (bindings .exit)) (now («module» .exit)) (now (scopes .exit)) (now (slots .exit)) (now (copies .exit)) (now (errors .exit))) (lists (now (starts .exit)) (now (counts .exit)) (now (list .exit)) (now («global_starts» .exit)) (now («global_counts» .exit)) (now («global_list» .exit))) ⌝ }
+{
+    *answer = readers::readers(
+        file,
+        nodes,
+        bindings,
+        module,
+        scopes,
+        slots,
+        copies,
+        errors,
+        starts,
+        counts,
+        list,
+        global_starts,
+        global_counts,
+        global_list,
+    );
 }
 
 // The scopes around a node, outermost first, then zeros; the result is how many they are.
