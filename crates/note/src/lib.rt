@@ -19,7 +19,7 @@ use store::sections::HIDDEN;
 use store::sections::LOADS_SHOWN;
 
 // The source of a binding that is from the module (document 01, "Answer buffers").
-const FROM_MODULE: usize = 65535;
+const MODULE: usize = 65535;
 
 fn flag(b: bool) -> u16
     ensures { λ r. ⌜ r ≡ bit b ⌝ }
@@ -80,17 +80,7 @@ fn note_entries(file: &[u8], binds: &mut [u64], t: &mut [u16]) -> usize
         let name = nodefile::entry_name(es, k) as usize;
         let public = nodefile::entry_public(es, k) == 1;
         let slot = nodefile::entry_slot(es, k) as usize;
-        store::put_binding(
-            binds,
-            k,
-            name,
-            FROM_MODULE,
-            true,
-            public,
-            false,
-            false,
-            slot,
-        );
+        store::put_binding(binds, k, name, MODULE, true, public, false, false, slot);
         store::put_known(t, false, name, k);
         k += 1;
     }
