@@ -1,50 +1,50 @@
 -- Any target: what the block has for its name, its visibility, and the way that it takes.
-use Prim.Native.Nat.{ℕ, _+_, _-_, _<_, _≤_}
-use mathlib.Core.Path.{_≡_, refl, sym, _∙_}
-use mathlib.Core.Bool.{Bool, true, false, cond, not, _&&_, _||_, true≢false}
+use Prim.Native.Nat.{ℕ, ◌+◌, ◌-◌, ◌<◌, ◌≤◌}
+use mathlib.Core.Path.{◌≡◌, refl, sym, ◌∙◌}
+use mathlib.Core.Bool.{Bool, true, false, cond, not, ◌&&◌, ◌||◌, true≢false}
 use mathlib.Core.List.{List}
 use mathlib.Core.Option.{Option, none, some}
 use native.Mathlib.Omega.{arith}
 use lib.Dec.{eqb}
-use lib.ListN.{getD}
-use Rattle·lexical.specs.Lists.{place, Tested, was, wasnt, tested}
-use Rattle·lexical.specs.Binders.{Target, loadShown, visible, target}
-use Rattle·lexical.specs.State.{Binding}
-use Rattle·lexical.specs.Records.{bit}
-use Rattle·store.specs.declared.ids.State.{State}
-use Rattle·store.specs.declared.ids.Block.{Block}
-use Rattle·store.specs.declared.ids.Marks.{Marks}
-use Rattle·store.specs.Sections.{Mem, mem, plus}
-use Rattle·store.specs.Rel.{World}
-use Rattle·store.specs.Blocks.{BlockEnv, titles, varsOf, KnownAs, InBlock}
-use Rattle·target·specs.Target.{aTarget, marksOf, Again, AgainDone, Fresh, FreshDone, Meets, DoneTarget}
-use Rattle·target·specs.Blocks.{over-more}
-use Rattle·target·proofs.Kept.{parts}
+use lib.ListN.{get_or}
+use Rattle.lexical.specs.Lists.{place, Tested, was, wasnt, tested}
+use Rattle.lexical.specs.Binders.{Target, loadShown, visible, target}
+use Rattle.lexical.specs.State.{Binding}
+use Rattle.lexical.specs.Records.{bit}
+use Rattle.store.specs.declared.ids.State.{State}
+use Rattle.store.specs.declared.ids.Block.{Block}
+use Rattle.store.specs.declared.ids.Marks.{Marks}
+use Rattle.store.specs.Sections.{Mem, mem, plus}
+use Rattle.store.specs.Rel.{World}
+use Rattle.store.specs.Blocks.{BlockEnv, titles, varsOf, KnownAs, InBlock}
+use Rattle.target.specs.Target.{aTarget, marksOf, Again, AgainDone, Fresh, FreshDone, Meets, DoneTarget}
+use Rattle.target.specs.Blocks.{over-more}
+use Rattle.target.proofs.Kept.{parts}
 
 -- ---- what the block has for a name: `known`
 
-from-place : (o : Option ℕ) (x : ℕ) → x ≡ plus o → KnownAs 0 o x
+from_place : (o : Option ℕ) (x : ℕ) → x ≡ plus o → KnownAs 0 o x
 unfolding plus KnownAs
-from-place none x e = omega arith
-from-place (some k) x e = omega arith
+from_place none x e = omega arith
+from_place (some k) x e = omega arith
 
 known-none : (first : ℕ) (o : Option ℕ) (x : ℕ) → KnownAs first o x → x ≤ first → o ≡ none
 unfolding KnownAs
 known-none first none x k h = refl
 known-none first (some j) x k h = absurd (omega arith)
 
-known-some : (first : ℕ) (o : Option ℕ) (x : ℕ) → KnownAs first o x → first < x → (k : ℕ) × (o ≡ some k) × (x - 1 ≡ first + k)
+known_some : (first : ℕ) (o : Option ℕ) (x : ℕ) → KnownAs first o x → first < x → (k : ℕ) × (o ≡ some k) × (x - 1 ≡ first + k)
 unfolding KnownAs
-known-some first none x k h = absurd (omega arith)
-known-some first (some j) x k h = (j, refl, omega arith)
+known_some first none x k h = absurd (omega arith)
+known_some first (some j) x k h = (j, refl, omega arith)
 
-known-as : {W : World} {env : List Binding} {ss : List ℕ} {E : BlockEnv} {ts : List Target} {s : State} {m : Mem} → InBlock W env ss E ts s m → (n : ℕ) → n < 1024
-    → KnownAs (E .first) (place n (titles (varsOf E ts))) (getD (m .t) (cond (E .local) 4096 1024 + n) 0)
-known-as {E = E} {ts = ts} {m = m} r n h = go (tested (E .local))
+known_as : {W : World} {env : List Binding} {ss : List ℕ} {E : BlockEnv} {ts : List Target} {s : State} {m : Mem} → InBlock W env ss E ts s m → (n : ℕ) → n < 1024
+    → KnownAs E.first (place n (titles (varsOf E ts))) (get_or m.t (cond E.local 4096 1024 + n) 0)
+known_as {E = E} {ts = ts} {m = m} r n h = go (tested E.local)
   where
-    go : Tested (E .local) → KnownAs (E .first) (place n (titles (varsOf E ts))) (getD (m .t) (cond (E .local) 4096 1024 + n) 0)
-    go (was l) = rw l (r .known l n h)
-    go (wasnt l) = rw (l, r .facts .first-module l) (from-place _ _ ((rw l at (parts r .outside)) .names .in-module n h))
+    go : Tested E.local → KnownAs E.first (place n (titles (varsOf E ts))) (get_or m.t (cond E.local 4096 1024 + n) 0)
+    go (was l) = rw l (r.known l n h)
+    go (wasnt l) = rw (l, r.facts.first-module l) (from_place _ _ ((rw l at (parts r).outside).names.in-module n h))
 
 -- ---- its visibility: `visibility`
 
@@ -53,79 +53,79 @@ unfolding bit
 eqb-bit true = refl
 eqb-bit false = refl
 
-target-is : {W : World} {env : List Binding} {ss : List ℕ} {E : BlockEnv} {ts : List Target} {s : State} {m : Mem} → InBlock W env ss E ts s m → (marks : Marks) (at name : ℕ) (public : Bool) → name < 1024
-    → public ≡ (marks .param || (not (eqb (getD (m .t) (3072 + name) 0) 1) && (not (marks .load) || eqb (getD (m .t) 20863 0) 1)))
-    → target (W .F .names) (marksOf marks) at name ≡ aTarget at name (marks .in_loop) public
+target_is : {W : World} {env : List Binding} {ss : List ℕ} {E : BlockEnv} {ts : List Target} {s : State} {m : Mem} → InBlock W env ss E ts s m → (marks : Marks) (at name : ℕ) (public : Bool) → name < 1024
+    → public ≡ (marks.param || (not (eqb (get_or m.t (3072 + name) 0) 1) && (not marks.load || eqb (get_or m.t 20863 0) 1)))
+    → target W.F.names (marksOf marks) at name ≡ aTarget at name marks.in_loop public
 unfolding target visible
-target-is {W} r marks at name public h e =
-    let n = parts r .outside .names in
-    rw (e, n .hidden name h, n .shown, eqb-bit (W .F .names .hidden name), eqb-bit (loadShown (W .F .names))) refl
+target_is {W} r marks at name public h e =
+    let n = (parts r).outside.names in
+    rw (e, n.hidden name h, n.shown, eqb-bit (W.F.names.hidden name), eqb-bit (loadShown W.F.names)) refl
 
 -- ---- the ghosts of the three ways
 
-module _ {name at : ℕ} {b : Block} {s : State} {binds w t : List ℕ} (full : s .full ≡ false) (x : ℕ) (e : x ≡ getD t (cond (b .local) 4096 1024 + name) 0) (g : Meets name at b s (mem binds w t)) where
-  pub seen : KnownAs (g .E .first) (place name (titles (varsOf (g .E) (g .ts)))) x
-  seen = rw (e, g .is .local-is) (known-as (g .rel .rel full) name (g .small))
+module _ {name at : ℕ} {b : Block} {s : State} {binds w t : List ℕ} (full : s.full ≡ false) (x : ℕ) (e : x ≡ get_or t (cond b.local 4096 1024 + name) 0) (g : Meets name at b s (mem binds w t)) where
+  pub seen : KnownAs g.E.first (place name (titles (varsOf g.E g.ts))) x
+  seen = rw (e, g.is.local-is) (known_as (g.rel.rel full) name g.small)
 
-  pub seen-some : b .first < x → (k : ℕ) × (place name (titles (varsOf (g .E) (g .ts))) ≡ some k) × (x - 1 ≡ g .E .first + k)
-  seen-some h = known-some (g .E .first) _ x seen (omega (arith, g .is .first-is))
+  pub seen-some : b.first < x → (k : ℕ) × (place name (titles (varsOf g.E g.ts)) ≡ some k) × (x - 1 ≡ g.E.first + k)
+  seen-some h = known_some g.E.first _ x seen (omega (arith, g.is.first-is))
 
-  abbrev pub met-again : b .first < x → Again (x - 1) at (b .local) s binds w
+  abbrev pub met-again : b.first < x → Again (x - 1) at b.local s binds w
   met-again h = record {
-    W = g .W;
-    env = g .env;
-    ss = g .ss;
-    E = g .E;
-    ts = g .ts;
+    W = g.W;
+    env = g.env;
+    ss = g.ss;
+    E = g.E;
+    ts = g.ts;
     t = t;
-    rel = g .rel .rel full;
-    local-is = g .is .local-is;
-    node = g .node;
-    not-full = full;
+    rel = g.rel.rel full;
+    local-is = g.is.local-is;
+    node = g.node;
+    not_full = full;
     name = name;
-    k = seen-some h .0;
-    known = seen-some h .1;
-    number = seen-some h .2;
+    k = (seen-some h).0;
+    known = (seen-some h).1;
+    number = (seen-some h).2;
   }
 
-  pub seen-none : x ≤ b .first → place name (titles (varsOf (g .E) (g .ts))) ≡ none
-  seen-none h = known-none (g .E .first) _ x seen (omega (arith, g .is .first-is))
+  pub seen_none : x ≤ b.first → place name (titles (varsOf g.E g.ts)) ≡ none
+  seen_none h = known-none g.E.first _ x seen (omega (arith, g.is.first-is))
 
-  abbrev met-fresh : (scope : ℕ) (local : Bool) → x ≤ b .first → g .E .local ≡ local → g .E .scope ≡ scope → Fresh name at scope local s (mem binds w t)
+  abbrev met-fresh : (scope : ℕ) (local : Bool) → x ≤ b.first → g.E.local ≡ local → g.E.scope ≡ scope → Fresh name at scope local s (mem binds w t)
   met-fresh scope local h l c = record {
-    W = g .W;
-    env = g .env;
-    ss = g .ss;
-    E = g .E;
-    ts = g .ts;
-    rel = g .rel .rel full;
+    W = g.W;
+    env = g.env;
+    ss = g.ss;
+    E = g.E;
+    ts = g.ts;
+    rel = g.rel.rel full;
     local-is = l;
     scope-is = c;
-    node = g .node;
-    small = g .small;
-    not-full = full;
-    unknown = seen-none h;
+    node = g.node;
+    small = g.small;
+    not_full = full;
+    unknown = seen_none h;
   }
 
-  abbrev pub met-local : x ≤ b .first → b .local ≡ true → Fresh name at (b .scope .0) true s (mem binds w t)
-  met-local h l = met-fresh (b .scope .0) true h (sym (g .is .local-is) ∙ l) (sym (g .is .scope-is))
+  abbrev pub met-local : x ≤ b.first → b.local ≡ true → Fresh name at b.scope.0 true s (mem binds w t)
+  met-local h l = met-fresh b.scope.0 true h (sym g.is.local-is ∙ l) (sym g.is.scope-is)
 
-  abbrev pub met-module : x ≤ b .first → b .local ≡ false → Fresh name at 0 false s (mem binds w t)
-  met-module h l = met-fresh 0 false h (sym (g .is .local-is) ∙ l) (g .rel .rel full .facts .scope-module (sym (g .is .local-is) ∙ l))
+  abbrev pub met-module : x ≤ b.first → b.local ≡ false → Fresh name at 0 false s (mem binds w t)
+  met-module h l = met-fresh 0 false h (sym g.is.local-is ∙ l) ((g.rel.rel full).facts.scope-module (sym g.is.local-is ∙ l))
 
 -- ---- and what they come to
 
 -- `full` already: a block only grows
-pub target-full : {name at : ℕ} {b : Block} {marks : Marks} {s : State} {m : Mem} → s .full ≡ true → DoneTarget name at b marks s m s m
-target-full f = record { right = λ g. record { over = λ q. over-more (g .E) (g .ts) _ (g .rel .over q); rel = λ q. absurd (true≢false (sym f ∙ q)) } }
+pub target-full : {name at : ℕ} {b : Block} {marks : Marks} {s : State} {m : Mem} → s.full ≡ true → DoneTarget name at b marks s m s m
+target-full f = record { right = λ g. record { over = λ q. over-more g.E g.ts _ (g.rel.over q); rel = λ q. absurd (true≢false (sym f ∙ q)) } }
 
-module _ {name at : ℕ} {b : Block} {marks : Marks} {s : State} {binds w t : List ℕ} {public : Bool} (full : s .full ≡ false) (x : ℕ) (e : x ≡ getD t (cond (b .local) 4096 1024 + name) 0)
-    (v : public ≡ (marks .param || (not (eqb (getD t (3072 + name) 0) 1) && (not (marks .load) || eqb (getD t 20863 0) 1)))) where
-  pub target-again : {r : State} {binds′ w′ : List ℕ} → b .first < x → r ≡ s → AgainDone (x - 1) at (b .local) public s binds w binds′ w′ → DoneTarget name at b marks s (mem binds w t) r (mem binds′ w′ t)
-  target-again h q d = record { right = λ g. rw (target-is (g .rel .rel full) marks at name public (g .small) v, q) (d .right (met-again full x e g h) (marks .in_loop)) }
+module _ {name at : ℕ} {b : Block} {marks : Marks} {s : State} {binds w t : List ℕ} {public : Bool} (full : s.full ≡ false) (x : ℕ) (e : x ≡ get_or t (cond b.local 4096 1024 + name) 0)
+    (v : public ≡ (marks.param || (not (eqb (get_or t (3072 + name) 0) 1) && (not marks.load || eqb (get_or t 20863 0) 1)))) where
+  pub target-again : {r : State} {binds' w' : List ℕ} → b.first < x → r ≡ s → AgainDone (x - 1) at b.local public s binds w binds' w' → DoneTarget name at b marks s (mem binds w t) r (mem binds' w' t)
+  target-again h q d = record { right = λ g. rw (target_is (g.rel.rel full) marks at name public g.small v, q) (d.right (met-again full x e g h) marks.in_loop) }
 
-  pub target-local : {r : State} {m′ : Mem} → x ≤ b .first → b .local ≡ true → FreshDone name at (b .scope .0) true (marks .in_loop) public s (mem binds w t) r m′ → DoneTarget name at b marks s (mem binds w t) r m′
-  target-local h l d = record { right = λ g. rw (target-is (g .rel .rel full) marks at name public (g .small) v) (d .right (met-local full x e g h l)) }
+  pub target-local : {r : State} {m' : Mem} → x ≤ b.first → b.local ≡ true → FreshDone name at b.scope.0 true marks.in_loop public s (mem binds w t) r m' → DoneTarget name at b marks s (mem binds w t) r m'
+  target-local h l d = record { right = λ g. rw (target_is (g.rel.rel full) marks at name public g.small v) (d.right (met-local full x e g h l)) }
 
-  pub target-module : {r : State} {m′ : Mem} → x ≤ b .first → b .local ≡ false → FreshDone name at 0 false (marks .in_loop) public s (mem binds w t) r m′ → DoneTarget name at b marks s (mem binds w t) r m′
-  target-module h l d = record { right = λ g. rw (target-is (g .rel .rel full) marks at name public (g .small) v) (d .right (met-module full x e g h l)) }
+  pub target-module : {r : State} {m' : Mem} → x ≤ b.first → b.local ≡ false → FreshDone name at 0 false marks.in_loop public s (mem binds w t) r m' → DoneTarget name at b marks s (mem binds w t) r m'
+  target-module h l d = record { right = λ g. rw (target_is (g.rel.rel full) marks at name public g.small v) (d.right (met-module full x e g h l)) }

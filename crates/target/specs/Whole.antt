@@ -1,53 +1,52 @@
 -- A block from its beginning to its end: with no target it is the state before it; with all its targets it is what `lexical` makes of them.
-use Prim.Native.Nat.{ℕ, suc, _+_, _<_}
-use mathlib.Core.Path.{_≡_, refl, sym, ap, ap₂, _∙_}
-use mathlib.Core.Bool.{true, true≢false}
-use mathlib.Core.List.{List, [], _∷_, _++_, map, append-assoc, append-nil}
-use mathlib.Core.Option.{some}
-use native.Mathlib.Omega.{arith}
-use lib.ListN.{length, getElem?, length-append}
-use Rattle·base.specs.UpTo.{at-behind}
-use Rattle·lexical.specs.Lists.{place}
-use Rattle·lexical.specs.Places.{mapO-some}
-use Rattle·lexical.specs.Binders.{Target, Var, merge}
-use Rattle·lexical.specs.State.{Binding, St}
-use Rattle·lexical.specs.Block.{fresh, slotFor, new, add, bind, naming, block}
-use Rattle·lexical.specs.Proof.Slots.{fresh-at}
-use Rattle·store.specs.declared.ids.State.{State}
-use Rattle·store.specs.Sections.{Mem}
-use Rattle·store.specs.Meanings.{Range}
-use Rattle·store.specs.Rel.{World, Rel, R, caps}
-use Rattle·store.specs.Blocks.{BlockEnv, localBlock, placed, placedFrom, varsOf, bindingsOf, slotsOf, blockSt, blockWorld, KnownAs, BlockFacts, InBlock, RB}
-use Rattle·store.specs.Laws.Placed.{placed-length}
-use Rattle·target·specs.Placed.{placed-at}
-use Rattle·target·specs.Blocks.{made-count}
+use Rattle.std.specs.Prelude.{ℕ, suc, ◌+◌, ◌<◌, ◌≡◌, true, length}
+use Rattle.std.proofs.Math.Path.{refl, sym, ap, ap₂}
+use Rattle.std.proofs.Common.{◌∙◌, true≢false, arith}
+use mathlib.Core.List.{List, [], ◌∷◌, ◌++◌, map, append_assoc, append-nil}
+use Rattle.std.proofs.Math.Option.{some}
+use Rattle.std.proofs.Math.ListN.{get_elem?, length-append}
+use Rattle.base.specs.UpTo.{at-behind}
+use Rattle.lexical.specs.Lists.{place}
+use Rattle.lexical.specs.Places.{mapO-some}
+use Rattle.lexical.specs.Binders.{Target, Var, merge}
+use Rattle.lexical.specs.State.{Binding, St}
+use Rattle.lexical.specs.Block.{fresh, slotFor, new, add, bind, naming, block}
+use Rattle.lexical.specs.Proof.Slots.{fresh_at}
+use Rattle.store.specs.declared.ids.State.{State}
+use Rattle.store.specs.Sections.{Mem}
+use Rattle.store.specs.Meanings.{Range}
+use Rattle.store.specs.Rel.{World, Rel, R, caps}
+use Rattle.store.specs.Blocks.{BlockEnv, localBlock, placed, placedFrom, varsOf, bindingsOf, slots_of, blockSt, blockWorld, KnownAs, BlockFacts, InBlock, RB}
+use Rattle.store.specs.Laws.Placed.{placed-length}
+use Rattle.target.specs.Placed.{placed_at}
+use Rattle.target.specs.Blocks.{made-count}
 
 -- ---- its bindings among all that are made
 
-module _ (E : BlockEnv) (ts : List Target) (k : ℕ) (b : Binding) (e : getElem? (bindingsOf E ts) k ≡ some b) where
-  pub block-stands : getElem? (blockSt E ts .made) (length (E .st .made) + k) ≡ some b
+module _ (E : BlockEnv) (ts : List Target) (k : ℕ) (b : Binding) (e : get_elem? (bindingsOf E ts) k ≡ some b) where
+  pub block-stands : get_elem? (blockSt E ts).made (length E.st.made + k) ≡ some b
   unfolding blockSt
-  block-stands = at-behind (E .st .made) (bindingsOf E ts) k ∙ e
+  block-stands = at-behind E.st.made (bindingsOf E ts) k ∙ e
 
   is-placed : (v : Var) × (placed E k v ≡ b)
-  is-placed = let r = mapO-some (placed E k) (getElem? (varsOf E ts) k) b (sym (placed-at E (varsOf E ts) k) ∙ e) in (r .0, r .2)
+  is-placed = let r = mapO-some (placed E k) (get_elem? (varsOf E ts) k) b (sym (placed_at E (varsOf E ts) k) ∙ e) in (r.0, r.2)
 
-  pub block-numbered : b .id ≡ E .first + k
+  pub block-numbered : b.id ≡ E.first + k
   unfolding placed
-  block-numbered = sym (ap (λ (x : Binding). x .id) (is-placed .1))
+  block-numbered = sym (ap (λ (x : Binding). x.id) is-placed.1)
 
-  pub block-local : b .local ≡ E .local
+  pub block-local : b.local ≡ E.local
   unfolding placed
-  block-local = sym (ap (λ (x : Binding). x .local) (is-placed .1))
+  block-local = sym (ap (λ (x : Binding). x.local) is-placed.1)
 
-  pub block-owner : b .owner ≡ E .scope
+  pub block-owner : b.owner ≡ E.scope
   unfolding placed
-  block-owner = sym (ap (λ (x : Binding). x .owner) (is-placed .1))
+  block-owner = sym (ap (λ (x : Binding). x.owner) is-placed.1)
 
 -- they are a stretch of them
-pub block-range : (E : BlockEnv) (ts : List Target) → E .local ≡ true → Range (blockSt E ts .made) (bindingsOf E ts) (length (E .st .made)) (length (blockSt E ts .made))
+pub block-range : (E : BlockEnv) (ts : List Target) → E.local ≡ true → Range (blockSt E ts).made (bindingsOf E ts) (length E.st.made) (length (blockSt E ts).made)
 block-range E ts l = record {
-  end = made-count E ts ∙ ap (λ (n : ℕ). length (E .st .made) + n) (sym (placed-length E 0 (varsOf E ts)));
+  end = made-count E ts ∙ ap (λ (n : ℕ). length E.st.made + n) (sym (placed-length E 0 (varsOf E ts)));
   within = omega arith;
   are = λ k b e. block-stands E ts k b e;
   locals = λ k b e. block-local E ts k b e ∙ l;
@@ -57,24 +56,24 @@ block-range E ts l = record {
 
 -- a state with the bindings bs and their slots
 abbrev grown : List Binding → St → St
-grown bs st = record { made = st .made ++ bs; named = st .named; slots = st .slots ++ map (λ (b : Binding). slotFor (b .owner) (b .slot) b) bs; copies = st .copies; log = st .log }
+grown bs st = record { made = st.made ++ bs; named = st.named; slots = st.slots ++ map (λ (b : Binding). slotFor b.owner b.slot b) bs; copies = st.copies; log = st.log }
 
 more-slots : (s : ℕ) (b : Binding) (st : St) → fresh s (add s b st) ≡ suc (fresh s st)
 unfolding add slotFor
-more-slots s b st = fresh-at (st .slots) (slotFor s (b .slot) b)
+more-slots s b st = fresh_at st.slots (slotFor s b.slot b)
 
-grown-add : (b : Binding) (bs : List Binding) (st : St) → grown bs (add (b .owner) b st) ≡ grown (b ∷ bs) st
+grown-add : (b : Binding) (bs : List Binding) (st : St) → grown bs (add b.owner b st) ≡ grown (b ∷ bs) st
 unfolding add
-grown-add b bs st = rw (append-assoc (st .made) (b ∷ []) bs, append-assoc (st .slots) (slotFor (b .owner) (b .slot) b ∷ [])) refl
+grown-add b bs st = rw (append_assoc st.made (b ∷ []) bs, append_assoc st.slots (slotFor b.owner b.slot b ∷ [])) refl
 
 module _ (s : ℕ) (st₀ : St) where
-  bind-placed : (k : ℕ) (vs : List Var) (st : St) → length (st .made) ≡ length (st₀ .made) + k → fresh s st ≡ fresh s st₀ + k → bind s vs st ≡ (placedFrom (localBlock s st₀) k vs, grown (placedFrom (localBlock s st₀) k vs) st)
+  bind-placed : (k : ℕ) (vs : List Var) (st : St) → length st.made ≡ length st₀.made + k → fresh s st ≡ fresh s st₀ + k → bind s vs st ≡ (placedFrom (localBlock s st₀) k vs, grown (placedFrom (localBlock s st₀) k vs) st)
   unfolding bind placedFrom placed localBlock
-  bind-placed k [] st e f = rw (append-nil (st .made), append-nil (st .slots)) refl
+  bind-placed k [] st e f = rw (append-nil st.made, append-nil st.slots) refl
   bind-placed k (v ∷ vs) st e f =
       let b = placed (localBlock s st₀) k v in
-      ap (λ (b : Binding). (b ∷ bind s vs (add s b st) .0, bind s vs (add s b st) .1)) here
-      ∙ ap (λ (r : List Binding × St). (b ∷ r .0, r .1)) (bind-placed (suc k) vs (add s b st) (unfold add in omega (arith, length-append (st .made) (b ∷ []))) (omega (arith, more-slots s b st)))
+      ap (λ (b : Binding). (b ∷ (bind s vs (add s b st)).0, (bind s vs (add s b st)).1)) here
+      ∙ ap (λ (r : List Binding × St). (b ∷ r.0, r.1)) (bind-placed (suc k) vs (add s b st) (unfold add in omega (arith, length-append st.made (b ∷ []))) (omega (arith, more-slots s b st)))
       ∙ ap (λ (x : St). (b ∷ placedFrom (localBlock s st₀) (suc k) vs, x)) (grown-add b (placedFrom (localBlock s st₀) (suc k) vs) st)
     where
       here : new s v st ≡ placed (localBlock s st₀) k v
@@ -82,13 +81,13 @@ module _ (s : ℕ) (st₀ : St) where
 
 -- all its targets
 pub block-is : (s : ℕ) (ts : List Target) (st : St) → block s ts st ≡ (bindingsOf (localBlock s st) ts, blockSt (localBlock s st) ts)
-unfolding block naming blockSt slotsOf localBlock
-block-is s ts st = ap (λ (r : List Binding × St). (r .0, naming ts (r .0) (r .1))) (bind-placed s st 0 (merge [] ts) st (omega arith) (omega arith))
+unfolding block naming blockSt slots_of localBlock
+block-is s ts st = ap (λ (r : List Binding × St). (r.0, naming ts r.0 r.1)) (bind-placed s st 0 (merge [] ts) st (omega arith) (omega arith))
 
 -- no target
-pub block-none : (s : ℕ) (st : St) → blockSt (localBlock s st) [] ≡ st
-unfolding blockSt slotsOf localBlock placedFrom merge
-block-none s st = rw (append-nil (st .made), append-nil (st .named), append-nil (st .slots)) refl
+pub block_none : (s : ℕ) (st : St) → blockSt (localBlock s st) [] ≡ st
+unfolding blockSt slots_of localBlock placedFrom merge
+block_none s st = rw (append-nil st.made, append-nil st.named, append-nil st.slots) refl
 
 pub facts-local : (W : World) (s : ℕ) (st : St) → s < 256 → BlockFacts W (localBlock s st)
 unfolding localBlock
@@ -99,24 +98,24 @@ facts-local W s st h = record {
   first-module = λ l. absurd (true≢false l);
   slot-local = λ _ k. refl;
   slot-module = λ l. absurd (true≢false l);
-  slot-small = λ l. absurd (true≢false l);
+  slot_small = λ l. absurd (true≢false l);
 }
 
 module _ {W : World} {env : List Binding} {ss : List ℕ} {s : State} {m : Mem} (k : ℕ) (st : St) where
   -- it begins
   pub opens : k < 256 → R W env ss st s m → RB W env ss (localBlock k st) [] s m
-  opens h r = record { over = λ f. rw block-none (r .over f); rel = λ f. go (r .rel f) }
+  opens h r = record { over = λ f. rw block_none (r.over f); rel = λ f. go (r.rel f) }
     where
       go : Rel W env ss (caps st) st s m → InBlock W env ss (localBlock k st) [] s m
       go q = record {
         facts = facts-local W k st h;
-        around = unfold localBlock in q .around;
-        ranges = unfold localBlock in q .ranges;
-        settled = unfold localBlock in q .settled;
-        rel = rw block-none (unfold localBlock blockWorld in q);
-        known = λ _ n b. unfold localBlock KnownAs place merge in q .scratch n b;
+        around = unfold localBlock in q.around;
+        ranges = unfold localBlock in q.ranges;
+        settled = unfold localBlock in q.settled;
+        rel = rw block_none (unfold localBlock blockWorld in q);
+        known = λ _ n b. unfold localBlock KnownAs place merge in q.scratch n b;
       }
 
   -- it ends
-  pub closes : (ts : List Target) → RB W env ss (localBlock k st) ts s m → R W env ss (block k ts st .1) s m
-  closes ts r = rw (block-is k ts st) (record { over = r .over; rel = λ f. unfold localBlock blockWorld blockSt in r .rel f .rel })
+  pub closes : (ts : List Target) → RB W env ss (localBlock k st) ts s m → R W env ss (block k ts st).1 s m
+  closes ts r = rw (block-is k ts st) (record { over = r.over; rel = λ f. unfold localBlock blockWorld blockSt in (r.rel f).rel })

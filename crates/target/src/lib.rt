@@ -1,20 +1,15 @@
 // One target of a block that is collected: a name that the block has already, or a new one.
-ghost use mathlib.Core.Path.{_≡_};
-ghost use mathlib.Core.Bool.{true, false, cond, not, _&&_, _||_};
-ghost use Prim.Native.Nat.{_+_, _≤_, _<_};
-ghost use lib.ListN.{length, getD};
-ghost use lib.Dec.{eqb};
-ghost use Rattle·store.specs.Sections.{mem, Long, hiddenAt, manyBindings, manyNames, shownAt, tLength, wLength};
-ghost use Rattle·target·specs.Target.{Again, AgainDone, Fresh, FreshDone, PreTarget, DoneTarget};
+ghost use Rattle.std.specs.Prelude.{◌≡◌, true, false, cond, not, ◌&&◌, ◌||◌, ◌+◌, ◌≤◌, ◌<◌, length, get_or, eqb};
+ghost use Rattle.store.specs.Sections.{mem, Long, hiddenAt, manyBindings, manyNames, shownAt, tLength, wLength};
+ghost use Rattle.target.specs.Target.{Again, AgainDone, Fresh, FreshDone, PreTarget, DoneTarget};
+
 use answer::ScopeId;
-use store::Block;
-use store::Marks;
-use store::State;
+use store::{Block, Marks, State};
 
 // Whether a target makes its name Public.
 fn visibility(t: &[u16], name: usize, marks: Marks) -> bool
-    requires { ⌜ (name < manyNames) × (length (now t) ≡ tLength) ⌝ }
-    ensures { λ r. ⌜ r ≡ marks .param || (not (eqb (getD (now (t .entry)) (hiddenAt + name) 0) 1) && (not (marks .load) || eqb (getD (now (t .entry)) shownAt 0) 1)) ⌝ }
+    requires { (name < manyNames) × (length t.now ≡ tLength) }
+    ensures { result ≡ marks.param || (not (eqb (get_or t.now (hiddenAt + name) 0) 1) && (not marks.load || eqb (get_or t.now shownAt 0) 1)) }
 {
     if marks.param {
         return true;
@@ -30,7 +25,7 @@ fn visibility(t: &[u16], name: usize, marks: Marks) -> bool
 
 // A list is full.
 fn filled(st: State) -> State
-    ensures { λ r. ⌜ r .full ≡ true ⌝ }
+    ensures { result.full ≡ true }
 {
     State {
         bindings: st.bindings,
@@ -43,7 +38,7 @@ fn filled(st: State) -> State
 }
 
 fn class(local: bool) -> usize
-    ensures { λ r. ⌜ (r ≡ cond local 2 1) × (r < 3) ⌝ }
+    ensures { (result ≡ cond local 2 1) × (result < 3) }
 {
     if local { 2 } else { 1 }
 }
@@ -58,8 +53,8 @@ fn bind_again(
     binds: &mut [u64],
     w: &mut [u32],
 ) -> State
-    requires { ⌜ (manyBindings ≤ length (now binds)) × (length (now w) ≡ wLength) × Again id at local st (now binds) (now w) ⌝ }
-    ensures { λ r. ⌜ (r ≡ st) × AgainDone id at local public st (now (binds .entry)) (now (w .entry)) (now (binds .exit)) (now (w .exit)) ⌝ }
+    requires { (manyBindings ≤ length binds.old) × (length w.old ≡ wLength) × Again id at local st binds.old w.old }
+    ensures { (result ≡ st) × AgainDone id at local public st binds.old w.old binds.new w.new }
 {
     store::bind_again(binds, id, public);
     store::put_answer(w, at, class(local), store::slot_of(binds, id), id);
@@ -78,8 +73,8 @@ fn new_local(
     w: &mut [u32],
     t: &mut [u16],
 ) -> State
-    requires { ⌜ Long (mem (now binds) (now w) (now t)) × Fresh name at (scope .0) true st (mem (now binds) (now w) (now t)) ⌝ }
-    ensures { λ r. ⌜ FreshDone name at (scope .0) true any public st (mem (now (binds .entry)) (now (w .entry)) (now (t .entry))) r (mem (now (binds .exit)) (now (w .exit)) (now (t .exit))) ⌝ }
+    requires { Long (mem binds.old w.old t.old) × Fresh name at scope.0 true st (mem binds.old w.old t.old) }
+    ensures { FreshDone name at scope.0 true any public st (mem binds.old w.old t.old) result (mem binds.new w.new t.new) }
 {
     let id = st.bindings;
     let k = st.slots;
@@ -108,7 +103,7 @@ fn new_local(
 
 // The slot of a new module entry: the number of entries so far.
 fn next_module_slot(st: State) -> usize
-    ensures { λ r. ⌜ r ≡ st .bindings ⌝ }
+    ensures { result ≡ st.bindings }
 {
     st.bindings
 }
@@ -124,8 +119,8 @@ fn new_module(
     w: &mut [u32],
     t: &mut [u16],
 ) -> State
-    requires { ⌜ Long (mem (now binds) (now w) (now t)) × Fresh name at 0 false st (mem (now binds) (now w) (now t)) ⌝ }
-    ensures { λ r. ⌜ FreshDone name at 0 false any public st (mem (now (binds .entry)) (now (w .entry)) (now (t .entry))) r (mem (now (binds .exit)) (now (w .exit)) (now (t .exit))) ⌝ }
+    requires { Long (mem binds.old w.old t.old) × Fresh name at 0 false st (mem binds.old w.old t.old) }
+    ensures { FreshDone name at 0 false any public st (mem binds.old w.old t.old) result (mem binds.new w.new t.new) }
 {
     let id = st.bindings;
     if id >= answer::BINDINGS {
@@ -156,8 +151,8 @@ pub fn collect_assign_ident(
     w: &mut [u32],
     t: &mut [u16],
 ) -> State
-    requires { ⌜ PreTarget name at block st (mem (now binds) (now w) (now t)) ⌝ }
-    ensures { λ r. ⌜ DoneTarget name at block marks st (mem (now (binds .entry)) (now (w .entry)) (now (t .entry))) r (mem (now (binds .exit)) (now (w .exit)) (now (t .exit))) ⌝ }
+    requires { PreTarget name at block st (mem binds.old w.old t.old) }
+    ensures { DoneTarget name at block marks st (mem binds.old w.old t.old) result (mem binds.new w.new t.new) }
 {
     if st.full {
         return st;

@@ -2,35 +2,35 @@
 use mathlib.Core.Path.{refl, ap}
 use native.Mathlib.Omega.{arith}
 use lib.ListN.{length, length-set}
-use Rattle·target·proofs.Renewed.{again-few, again-done}
-use borrow.Author.Needs.{needs}
-use Rattle·target·proofs.bind_again.Statement.{statement}
-use Rattle·target·proofs.bind_again.Tie as tie
+use Rattle.target.proofs.Renewed.{again-few, again-done}
+use borrow.Author.Rules.{rules}
+use Rattle.target.proofs.bind_again.Statement.{statement}
+use Rattle.target.proofs.bind_again.Tie as tie
 
 bind-again-requires : tie.Need-bind-again-requires
-bind-again-requires c κs = omega (arith, again-few (c .before .before .before .pre .2))
+bind-again-requires c κs = omega (arith, again-few c.before.before.before.requires.2)
 
 class-requires : tie.Need-class-requires
-class-requires c κs = search needs
+class-requires c κs = search rules
 
 slot-of-requires : tie.Need-slot-of-requires
-slot-of-requires c κs = omega (arith, again-few (c .before .before .before .before .before .before .before .before .before .pre .2), simp length-set at (ap length (c .before .before .before .before .before .bind-again .ensures)))
+slot-of-requires c κs = omega (arith, again-few c.before.before.before.before.before.before.before.before.before.requires.2, simp length-set at (ap length c.before.before.before.before.before.bind-again.ensures))
 
 put-answer-requires : tie.Need-put-answer-requires
-put-answer-requires c κs = let g = c .before .before .before .before .before .before .before .before .before .before .pre .2 in omega (arith, again-few g, g .node)
+put-answer-requires c κs = let g = c.before.before.before.before.before.before.before.before.before.before.requires.2 in omega (arith, again-few g, g.node)
 
-same-length : tie.Need-same-length
-same-length c = search needs
+same_length : tie.Need-same-length
+same_length c = search rules
 
 same-length-2 : tie.Need-same-length-2
-same-length-2 c = search needs
+same-length-2 c = search rules
 
 returns : tie.Need-returns
 returns c =
-    let p = c .before .before .before .before .before .before .before .before .before .before .before .before .before .pre in
-    let k = c .before .before .before .before .before .class in
-    let n = c .before .before .before .slot-of in
-    (refl, again-done (k .result) (n .result) (p .0) (p .1) (c .before .before .before .before .before .before .before .before .before .bind-again .ensures) (k .ensures .0) (n .ensures .0) (c .before .before .put-answer .ensures))
+    let p = c.before.before.before.before.before.before.before.before.before.before.before.before.before.requires in
+    let k = c.before.before.before.before.before.class in
+    let n = c.before.before.before.slot-of in
+    (refl, again-done k.result n.result p.0 p.1 c.before.before.before.before.before.before.before.before.before.bind-again.ensures k.ensures.0 n.ensures.0 c.before.before.put-answer.ensures)
 
 pub bind-again-spec : {M : Type 1} → statement M
 bind-again-spec =
@@ -40,6 +40,6 @@ bind-again-spec =
     class-requires
     slot-of-requires
     put-answer-requires
-    same-length
+    same_length
     same-length-2
     returns)
