@@ -27,7 +27,7 @@ GOAL = re.compile(r"(?:Need|InvT|MeasureT|In|After|Then|Else|invariant|decreases
 # Clauses of a refusal whose names would fall together with those of the limits.
 CLAUSES = {f"many-{what}": f"too_many_{what}" for what in ("nodes", "names", "entries", "globals", "bindings", "slots", "errors")}
 # Lemmas that the kit's script has already turned, and that would fall together with a definition's name.
-LEMMAS = {word: f"{word}_lem" for word in ("answer_word", "in_rest", "is_name", "own_name", "owner_of")}
+LEMMAS = {word: f"{word}_lem" for word in ("answer_word", "in_rest", "is_name", "own_name", "owner_of")} | {"placed-from": "placed_from_lem"}
 
 
 def snake(word):
@@ -40,7 +40,7 @@ def snake(word):
 
 def texts(top):
     for path in sorted((top / "crates").rglob("*")):
-        if path.suffix in (".antt", ".rt", ".edit") and "out" not in path.parts and "target" not in path.parts:
+        if path.suffix in (".antt", ".rt", ".edit") and "out" not in path.parts:
             yield path
 
 

@@ -14,36 +14,36 @@ abbrev pub buffers : List ℕ → List ℕ → List ℕ → List ℕ → List �
 buffers n b e sc sl c er = record { nodes = n; bindings = b; entries = e; scopes = sc; slots = sl; copies = c; errors = er }
 
 -- how long each of them must be
-abbrev pub nodesFull : ℕ
-nodesFull = 2048
+abbrev pub nodes_full : ℕ
+nodes_full = 2048
 
-abbrev pub bindingsFull : ℕ
-bindingsFull = 2304
+abbrev pub bindings_full : ℕ
+bindings_full = 2304
 
-abbrev pub entriesFull : ℕ
-entriesFull = 2304
+abbrev pub entries_full : ℕ
+entries_full = 2304
 
-abbrev pub scopesFull : ℕ
-scopesFull = 256
+abbrev pub scopes_full : ℕ
+scopes_full = 256
 
-abbrev pub slotsFull : ℕ
-slotsFull = 4096
+abbrev pub slots_full : ℕ
+slots_full = 4096
 
-abbrev pub copiesFull : ℕ
-copiesFull = 4096
+abbrev pub copies_full : ℕ
+copies_full = 4096
 
-abbrev pub errorsFull : ℕ
-errorsFull = 2048
+abbrev pub errors_full : ℕ
+errors_full = 2048
 
 -- number 1: a buffer is shorter than its full length
 pub data ShortOf (nodes bindings entries scopes slots copies errors : ℕ) : Type 0 where
-  short-nodes : nodes < nodesFull → ShortOf nodes bindings entries scopes slots copies errors
-  short-bindings : bindings < bindingsFull → ShortOf nodes bindings entries scopes slots copies errors
-  short-entries : entries < entriesFull → ShortOf nodes bindings entries scopes slots copies errors
-  short-scopes : scopes < scopesFull → ShortOf nodes bindings entries scopes slots copies errors
-  short-slots : slots < slotsFull → ShortOf nodes bindings entries scopes slots copies errors
-  short-copies : copies < copiesFull → ShortOf nodes bindings entries scopes slots copies errors
-  short-errors : errors < errorsFull → ShortOf nodes bindings entries scopes slots copies errors
+  short_nodes : nodes < nodes_full → ShortOf nodes bindings entries scopes slots copies errors
+  short_bindings : bindings < bindings_full → ShortOf nodes bindings entries scopes slots copies errors
+  short_entries : entries < entries_full → ShortOf nodes bindings entries scopes slots copies errors
+  short_scopes : scopes < scopes_full → ShortOf nodes bindings entries scopes slots copies errors
+  short_slots : slots < slots_full → ShortOf nodes bindings entries scopes slots copies errors
+  short_copies : copies < copies_full → ShortOf nodes bindings entries scopes slots copies errors
+  short_errors : errors < errors_full → ShortOf nodes bindings entries scopes slots copies errors
 
 abbrev pub Short : Buffers → Type 0
 Short b = ShortOf (length b.nodes) (length b.bindings) (length b.entries) (length b.scopes) (length b.slots) (length b.copies) (length b.errors)

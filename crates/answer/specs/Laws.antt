@@ -17,16 +17,16 @@ fields-widths (w ∷ ws) [] = ap (◌∷◌ w) (fields-widths ws [])
 fields-widths (w ∷ ws) (x ∷ row) = ap (◌∷◌ w) (fields-widths ws row)
 
 -- a field that a row does not have is 0
-none-get : (ws : List ℕ) (k : ℕ) → get_or (values (fields ws [])) k 0 ≡ 0
-none-get [] k = refl
-none-get (w ∷ ws) zero = refl
-none-get (w ∷ ws) (suc k) = none-get ws k
+none_get : (ws : List ℕ) (k : ℕ) → get_or (values (fields ws [])) k 0 ≡ 0
+none_get [] k = refl
+none_get (w ∷ ws) zero = refl
+none_get (w ∷ ws) (suc k) = none_get ws k
 
-values-get : (ws row : List ℕ) (k : ℕ) → k < length ws → get_or (values (fields ws row)) k 0 ≡ get_or row k 0
-values-get [] row k h = absurd (omega arith)
-values-get (w ∷ ws) [] k h = none-get (w ∷ ws) k
-values-get (w ∷ ws) (x ∷ row) zero h = refl
-values-get (w ∷ ws) (x ∷ row) (suc k) h = values-get ws row k (omega arith)
+values_get : (ws row : List ℕ) (k : ℕ) → k < length ws → get_or (values (fields ws row)) k 0 ≡ get_or row k 0
+values_get [] row k h = absurd (omega arith)
+values_get (w ∷ ws) [] k h = none_get (w ∷ ws) k
+values_get (w ∷ ws) (x ∷ row) zero h = refl
+values_get (w ∷ ws) (x ∷ row) (suc k) h = values_get ws row k (omega arith)
 
 -- the values of a row, one of them replaced
 fields-set : (ws row : List ℕ) (k v : ℕ) → k < length row → fields ws (set (values (fields ws row)) k v) ≡ fields ws (set row k v)
@@ -51,16 +51,16 @@ module _ (ws row : List ℕ) (h : Narrow (fields ws row)) where
   unpack-packed = subst (λ (l : List ℕ). unpack l (packed ws row) ≡ values (fields ws row)) (fields-widths ws row) (unpack-pack (fields ws row) h)
 
   pub part-packed : (k : ℕ) → k < length ws → part ws k (packed ws row) ≡ get_or row k 0
-  part-packed k l = ap (λ (x : List ℕ). get_or x k 0) unpack-packed ∙ values-get ws row k l
+  part-packed k l = ap (λ (x : List ℕ). get_or x k 0) unpack-packed ∙ values_get ws row k l
 
   pub changed-packed : (k v : ℕ) → k < length row → changed ws k v (packed ws row) ≡ packed ws (set row k (v % 2 ^ get_or ws k 0))
   changed-packed k v l = ap (λ (x : List ℕ). packed ws (set x k (v % 2 ^ get_or ws k 0))) unpack-packed ∙ ap pack (fields-set ws row k (v % 2 ^ get_or ws k 0) l)
 
 -- ---- read, and replaced
 
-unpack-long : (ws : List ℕ) (r : ℕ) → length (unpack ws r) ≡ length ws
-unpack-long [] r = refl
-unpack-long (w ∷ ws) r = ap suc (unpack-long ws r)
+unpack_long : (ws : List ℕ) (r : ℕ) → length (unpack ws r) ≡ length ws
+unpack_long [] r = refl
+unpack_long (w ∷ ws) r = ap suc (unpack_long ws r)
 
 unpack-fields : (ws : List ℕ) (r : ℕ) → fields ws (unpack ws r) ≡ bits.fields ws (unpack ws r)
 unpack-fields [] r = refl
@@ -69,20 +69,20 @@ unpack-fields (w ∷ ws) r = ap (◌∷◌ (w, r / 2 ^ total ws % 2 ^ w)) (unpac
 pub packed-unpack : (ws : List ℕ) (r : ℕ) → packed ws (unpack ws r) ≡ r % 2 ^ total ws
 packed-unpack ws r = ap pack (unpack-fields ws r) ∙ pack-unpack ws r
 
-pub part-lt : (ws : List ℕ) (k r : ℕ) → part ws k r < 2 ^ get_or ws k 0
-part-lt [] k r = omega arith
-part-lt (w ∷ ws) zero r = mod-lt (r / 2 ^ total ws) (pow_pos w)
-part-lt (w ∷ ws) (suc k) r = part-lt ws k r
+pub part_lt : (ws : List ℕ) (k r : ℕ) → part ws k r < 2 ^ get_or ws k 0
+part_lt [] k r = omega arith
+part_lt (w ∷ ws) zero r = mod-lt (r / 2 ^ total ws) (pow_pos w)
+part_lt (w ∷ ws) (suc k) r = part_lt ws k r
 
-unpack-narrow : (ws : List ℕ) (r : ℕ) → Narrow (fields ws (unpack ws r))
-unpack-narrow [] r = tt
-unpack-narrow (w ∷ ws) r = (mod-lt (r / 2 ^ total ws) (pow_pos w), unpack-narrow ws r)
+unpack_narrow : (ws : List ℕ) (r : ℕ) → Narrow (fields ws (unpack ws r))
+unpack_narrow [] r = tt
+unpack_narrow (w ∷ ws) r = (mod-lt (r / 2 ^ total ws) (pow_pos w), unpack_narrow ws r)
 
-set-narrow : (ws row : List ℕ) (k v : ℕ) → Narrow (fields ws row) → v < 2 ^ get_or ws k 0 → Narrow (fields ws (set row k v))
-set-narrow [] row k v h l = tt
-set-narrow (w ∷ ws) [] k v h l = h
-set-narrow (w ∷ ws) (x ∷ row) zero v h l = (l, h.1)
-set-narrow (w ∷ ws) (x ∷ row) (suc k) v h l = (h.0, set-narrow ws row k v h.1 l)
+set_narrow : (ws row : List ℕ) (k v : ℕ) → Narrow (fields ws row) → v < 2 ^ get_or ws k 0 → Narrow (fields ws (set row k v))
+set_narrow [] row k v h l = tt
+set_narrow (w ∷ ws) [] k v h l = h
+set_narrow (w ∷ ws) (x ∷ row) zero v h l = (l, h.1)
+set_narrow (w ∷ ws) (x ∷ row) (suc k) v h l = (h.0, set_narrow ws row k v h.1 l)
 
 set_sum : (ws row : List ℕ) (k v : ℕ) → length row ≡ length ws → k < length ws → packed ws (set row k v) + get_or row k 0 * 2 ^ after ws k ≡ packed ws row + v * 2 ^ after ws k
 set_sum [] row k v e h = absurd (omega arith)
@@ -95,20 +95,20 @@ module _ (ws : List ℕ) (k v r : ℕ) (h : k < length ws) where
   fit = v % 2 ^ get_or ws k 0
 
   pub changed-sum : changed ws k v r + part ws k r * 2 ^ after ws k ≡ r % 2 ^ total ws + fit * 2 ^ after ws k
-  changed-sum = set_sum ws (unpack ws r) k fit (unpack-long ws r) h ∙ ap (λ (x : ℕ). x + fit * 2 ^ after ws k) (packed-unpack ws r)
+  changed-sum = set_sum ws (unpack ws r) k fit (unpack_long ws r) h ∙ ap (λ (x : ℕ). x + fit * 2 ^ after ws k) (packed-unpack ws r)
 
   -- a writer: the field's part of the number goes, the value's comes
   pub changed-is : (x y : ℕ) → y ≡ part ws k r → r < 2 ^ total ws → x + y * 2 ^ after ws k ≡ r + fit * 2 ^ after ws k → x ≡ changed ws k v r
   changed-is x y e l q = omega (arith, (rw e at q) ∙ sym (changed-sum ∙ ap (λ (z : ℕ). z + fit * 2 ^ after ws k) (mod-eq_of_lt l)))
 
   narrow : Narrow (fields ws (set (unpack ws r) k fit))
-  narrow = set-narrow ws (unpack ws r) k fit (unpack-narrow ws r) (mod-lt v (pow_pos (get_or ws k 0)))
+  narrow = set_narrow ws (unpack ws r) k fit (unpack_narrow ws r) (mod-lt v (pow_pos (get_or ws k 0)))
 
   pub part-changed : part ws k (changed ws k v r) ≡ fit
-  part-changed = part-packed ws (set (unpack ws r) k fit) narrow k h ∙ get_or-set_same (unpack ws r) k fit 0 (omega (arith, unpack-long ws r))
+  part-changed = part-packed ws (set (unpack ws r) k fit) narrow k h ∙ get_or-set_same (unpack ws r) k fit 0 (omega (arith, unpack_long ws r))
 
-  pub part-other : (i : ℕ) → i < length ws → (i ≡ k → ⊥) → part ws i (changed ws k v r) ≡ part ws i r
-  part-other i l n = part-packed ws (set (unpack ws r) k fit) narrow i l ∙ get_or-set_other (unpack ws r) k i fit 0 n
+  pub part_other : (i : ℕ) → i < length ws → (i ≡ k → ⊥) → part ws i (changed ws k v r) ≡ part ws i r
+  part_other i l n = part-packed ws (set (unpack ws r) k fit) narrow i l ∙ get_or-set_other (unpack ws r) k i fit 0 n
 
 -- ---- a row that fits
 

@@ -1,7 +1,7 @@
 // A binding: name, source, from-module, public, any, captured, local, slot, zero.
 ghost use Rattle.std.specs.Prelude.{◌≡◌, [], ◌∷◌};
 ghost use Rattle.answer.specs.Fields.{packed, cut, changed, Part};
-ghost use Rattle.answer.specs.Records.{bindingWidths};
+ghost use Rattle.answer.specs.Records.{binding_widths};
 
 // How many values a field has.
 const WORD: u64 = 65536;
@@ -28,49 +28,49 @@ const SOURCE: u64 = FROM_MODULE * FLAG;
 const NAME: u64 = SOURCE * WORD;
 
 pub fn name(r: u64) -> u64
-    ensures { Part bindingWidths 0 r result }
+    ensures { Part binding_widths 0 r result }
 {
     r / NAME % WORD
 }
 
 pub fn source(r: u64) -> u64
-    ensures { Part bindingWidths 1 r result }
+    ensures { Part binding_widths 1 r result }
 {
     r / SOURCE % WORD
 }
 
 pub fn from_module(r: u64) -> u64
-    ensures { Part bindingWidths 2 r result }
+    ensures { Part binding_widths 2 r result }
 {
     r / FROM_MODULE % FLAG
 }
 
 pub fn public(r: u64) -> u64
-    ensures { Part bindingWidths 3 r result }
+    ensures { Part binding_widths 3 r result }
 {
     r / PUBLIC % FLAG
 }
 
 pub fn any(r: u64) -> u64
-    ensures { Part bindingWidths 4 r result }
+    ensures { Part binding_widths 4 r result }
 {
     r / ANY % FLAG
 }
 
 pub fn captured(r: u64) -> u64
-    ensures { Part bindingWidths 5 r result }
+    ensures { Part binding_widths 5 r result }
 {
     r / CAPTURED % FLAG
 }
 
 pub fn local(r: u64) -> u64
-    ensures { Part bindingWidths 6 r result }
+    ensures { Part binding_widths 6 r result }
 {
     r / LOCAL % FLAG
 }
 
 pub fn slot(r: u64) -> u64
-    ensures { Part bindingWidths 7 r result }
+    ensures { Part binding_widths 7 r result }
 {
     r / SLOT % PLACE
 }
@@ -86,7 +86,7 @@ pub fn make(
     local: u64,
     slot: u64,
 ) -> u64
-    ensures { result ≡ packed bindingWidths (cut bindingWidths (name ∷ source ∷ from_module ∷ public ∷ any ∷ captured ∷ local ∷ slot ∷ [])) }
+    ensures { result ≡ packed binding_widths (cut binding_widths (name ∷ source ∷ from_module ∷ public ∷ any ∷ captured ∷ local ∷ slot ∷ [])) }
 {
     name % WORD * NAME
         + source % WORD * SOURCE
@@ -100,21 +100,21 @@ pub fn make(
 
 // The record with this field replaced.
 pub fn with_public(r: u64, v: u64) -> u64
-    ensures { result ≡ changed bindingWidths 3 v r }
+    ensures { result ≡ changed binding_widths 3 v r }
 {
     r - public(r) * PUBLIC + v % FLAG * PUBLIC
 }
 
 // The record with this field replaced.
 pub fn with_any(r: u64, v: u64) -> u64
-    ensures { result ≡ changed bindingWidths 4 v r }
+    ensures { result ≡ changed binding_widths 4 v r }
 {
     r - any(r) * ANY + v % FLAG * ANY
 }
 
 // The record with this field replaced.
 pub fn with_captured(r: u64, v: u64) -> u64
-    ensures { result ≡ changed bindingWidths 5 v r }
+    ensures { result ≡ changed binding_widths 5 v r }
 {
     r - captured(r) * CAPTURED + v % FLAG * CAPTURED
 }

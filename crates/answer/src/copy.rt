@@ -1,7 +1,7 @@
 // A copy: the scope that it is made in, the slot outside, the slot inside.
 ghost use Rattle.std.specs.Prelude.{◌≡◌, [], ◌∷◌};
 ghost use Rattle.answer.specs.Fields.{packed, cut, Part};
-ghost use Rattle.answer.specs.Records.{copyWidths};
+ghost use Rattle.answer.specs.Records.{copy_widths};
 
 const NUMBER: u64 = 256;
 
@@ -12,26 +12,26 @@ const PARENT: u64 = PLACE;
 const SCOPE: u64 = PARENT * PLACE;
 
 pub fn scope(r: u32) -> u64
-    ensures { Part copyWidths 0 r result }
+    ensures { Part copy_widths 0 r result }
 {
     (r as u64) / SCOPE % NUMBER
 }
 
 pub fn parent(r: u32) -> u64
-    ensures { Part copyWidths 1 r result }
+    ensures { Part copy_widths 1 r result }
 {
     (r as u64) / PARENT % PLACE
 }
 
 pub fn child(r: u32) -> u64
-    ensures { Part copyWidths 2 r result }
+    ensures { Part copy_widths 2 r result }
 {
     (r as u64) % PLACE
 }
 
 // The record of these fields, each cut to its width.
 pub fn make(scope: u64, parent: u64, child: u64) -> u32
-    ensures { result ≡ packed copyWidths (cut copyWidths (scope ∷ parent ∷ child ∷ [])) }
+    ensures { result ≡ packed copy_widths (cut copy_widths (scope ∷ parent ∷ child ∷ [])) }
 {
     (scope % NUMBER * SCOPE + parent % PLACE * PARENT + child % PLACE) as u32
 }

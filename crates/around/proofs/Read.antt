@@ -7,8 +7,8 @@ use native.Mathlib.Omega.{arith}
 use lib.ListN.{drop, length-take}
 use Rattle.bits.specs.FieldLaws.{field_lt}
 use Rattle.nodefile.specs.Node.{Is, kind_of, size_of}
-use Rattle.nodefile.specs.Layout.{nodeCount, nodesOf}
-use Rattle.nodefile.specs.Listed.{kind_at, isScope}
+use Rattle.nodefile.specs.Layout.{node_count, nodes_of}
+use Rattle.nodefile.specs.Listed.{kind_at, is_scope}
 use Rattle.around.specs.Ends.{end_in}
 use Rattle.around.specs.Scopes.{counted}
 use Rattle.around.specs.Descent.{end_at}
@@ -18,9 +18,9 @@ pub ended : (ns : List ℕ) (p e : ℕ) {t : List ℕ} {z q : ℕ} → t ≡ dro
 ended ns p e n s q = q ∙ ap (λ (z : ℕ). end_in z p e) (s.is ∙ ap size_of n)
 
 -- whether it has a scope of its own, by its kind
-pub scoped : (ns : List ℕ) (p : ℕ) {t : List ℕ} {k : ℕ} {b : Bool} → t ≡ drop (8 * p) ns → Is (kind_of t) 32 k → b ≡ isScope k → b ≡ isScope (kind_at ns p)
-scoped ns p n k b = b ∙ ap isScope (k.is ∙ ap kind_of n)
+pub scoped : (ns : List ℕ) (p : ℕ) {t : List ℕ} {k : ℕ} {b : Bool} → t ≡ drop (8 * p) ns → Is (kind_of t) 32 k → b ≡ is_scope k → b ≡ is_scope (kind_at ns p)
+scoped ns p n k b = b ∙ ap is_scope (k.is ∙ ap kind_of n)
 
 -- a file's header counts fewer nodes than this
-pub few-nodes : (bs : List ℕ) → counted (nodesOf bs) < 65536
-few-nodes bs = omega (arith, length-take (8 * nodeCount bs) (drop 12 bs), field_lt bs 8 16)
+pub few_nodes : (bs : List ℕ) → counted (nodes_of bs) < 65536
+few_nodes bs = omega (arith, length-take (8 * node_count bs) (drop 12 bs), field_lt bs 8 16)

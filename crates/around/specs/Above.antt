@@ -11,9 +11,9 @@ use mathlib.Core.List.{List, [], ◌∷◌, ◌++◌, reverse, reverse_aux-eq, a
 use Rattle.std.proofs.Math.ListN.{length}
 use borrow.Author.Tests.{ne_eqb}
 use Rattle.lexical.specs.Lists.{or_else}
-use Rattle.lexical.specs.Tree.{Forest, nil, node, Way, plain, look, fn, compr, clause, type, way, isFn, when, empty, top}
+use Rattle.lexical.specs.Tree.{Forest, nil, node, Way, plain, look, fn, compr, clause, type, way, is_fn, when, empty, top}
 use Rattle.lexical.specs.Binders.{Names, Target, targets}
-use Rattle.lexical.specs.Meaning.{Around, around, reach, deeper, scopesOf}
+use Rattle.lexical.specs.Meaning.{Around, around, reach, deeper, scopes_of}
 use Rattle.lexical.specs.Claims.{ancestors}
 use Rattle.nodefile.specs.Reads.{Reads}
 use Rattle.around.specs.Descent.{end_at}
@@ -26,15 +26,15 @@ none-entered true s ss = refl
 none-entered false s ss = refl
 
 module _ (s : ℕ) (ts : List Target) (b : Bool) (up : List Around) where
-  pub scopes-here : (w : Way) (l : Bool) → scopesOf (around w s ts b l ∷ up) ≡ cond l (when (isFn w) s) [] ++ scopesOf up
-  unfolding scopesOf deeper reach isFn when
-  scopes-here plain l = none-entered l s (scopesOf up)
-  scopes-here look l = none-entered l s (scopesOf up)
-  scopes-here fn true = refl
-  scopes-here fn false = refl
-  scopes-here compr l = none-entered l s (scopesOf up)
-  scopes-here clause l = none-entered l s (scopesOf up)
-  scopes-here type l = none-entered l s (scopesOf up)
+  pub scopes_here : (w : Way) (l : Bool) → scopes_of (around w s ts b l ∷ up) ≡ cond l (when (is_fn w) s) [] ++ scopes_of up
+  unfolding scopes_of deeper reach is_fn when
+  scopes_here plain l = none-entered l s (scopes_of up)
+  scopes_here look l = none-entered l s (scopes_of up)
+  scopes_here fn true = refl
+  scopes_here fn false = refl
+  scopes_here compr l = none-entered l s (scopes_of up)
+  scopes_here clause l = none-entered l s (scopes_of up)
+  scopes_here type l = none-entered l s (scopes_of up)
 
 turn_one : (l f : Bool) (s : ℕ) (ss : List ℕ) → reverse (cond l (when f s) [] ++ ss) ≡ reverse ss ++ cond l (when f s) []
 unfolding when
@@ -42,8 +42,8 @@ turn_one true true s ss = reverse_aux-eq ss (s ∷ [])
 turn_one true false s ss = sym (append-nil (reverse ss))
 turn_one false f s ss = sym (append-nil (reverse ss))
 
-pub turned : (w : Way) (s : ℕ) (ts : List Target) (b l : Bool) (up : List Around) → reverse (scopesOf (around w s ts b l ∷ up)) ≡ reverse (scopesOf up) ++ cond l (when (isFn w) s) []
-turned w s ts b l up = ap reverse (scopes-here s ts b up w l) ∙ turn_one l (isFn w) s (scopesOf up)
+pub turned : (w : Way) (s : ℕ) (ts : List Target) (b l : Bool) (up : List Around) → reverse (scopes_of (around w s ts b l ∷ up)) ≡ reverse (scopes_of up) ++ cond l (when (is_fn w) s) []
+turned w s ts b l up = ap reverse (scopes_here s ts b up w l) ∙ turn_one l (is_fn w) s (scopes_of up)
 
 top_one : (l f : Bool) (s : ℕ) (ss : List ℕ) → top (cond l (when f s) [] ++ ss) ≡ cond l (cond f s (top ss)) (top ss)
 unfolding when top
@@ -51,8 +51,8 @@ top_one true true s ss = refl
 top_one true false s ss = refl
 top_one false f s ss = refl
 
-pub top-here : (w : Way) (s : ℕ) (ts : List Target) (b l : Bool) (up : List Around) → top (scopesOf (around w s ts b l ∷ up)) ≡ cond l (cond (isFn w) s (top (scopesOf up))) (top (scopesOf up))
-top-here w s ts b l up = ap top (scopes-here s ts b up w l) ∙ top_one l (isFn w) s (scopesOf up)
+pub top_here : (w : Way) (s : ℕ) (ts : List Target) (b l : Bool) (up : List Around) → top (scopes_of (around w s ts b l ∷ up)) ≡ cond l (cond (is_fn w) s (top (scopes_of up))) (top (scopes_of up))
+top_here w s ts b l up = ap top (scopes_here s ts b up w l) ∙ top_one l (is_fn w) s (scopes_of up)
 
 module _ (N : Names) (ns : List ℕ) (x : ℕ) where
   pub outside : (f : Forest) (p e : ℕ) → 8 * e ≤ length ns → p ≤ e → Reads (range ns p e) p f → (p ≤ x → x < e → ⊥)

@@ -11,14 +11,14 @@ pub end_none : (size p e : ℕ) → size ≡ 0 → end_in size p e ≡ e
 unfolding end_in
 end_none size p e h = rw (eq-eqb size 0 h)
 
-pub end-some : (size p e : ℕ) → (size ≡ 0 → ⊥) → end_in size p e ≡ min (p + size) e
+pub end_some : (size p e : ℕ) → (size ≡ 0 → ⊥) → end_in size p e ≡ min (p + size) e
 unfolding end_in
-end-some size p e h = rw (ne_eqb size 0 h)
+end_some size p e h = rw (ne_eqb size 0 h)
 
 -- it is past the node's start, and not past e
-pub end-past : (size p e : ℕ) → p < e → (p < end_in size p e) × (end_in size p e ≤ e)
-end-past size p e h =
+pub end_past : (size p e : ℕ) → p < e → (p < end_in size p e) × (end_in size p e ≤ e)
+end_past size p e h =
     elim (ℕ_discrete size 0) [
       | yes z ↦ omega (arith, end_none size p e z)
-      | no z ↦ omega (arith, end-some size p e z)
+      | no z ↦ omega (arith, end_some size p e z)
     ]

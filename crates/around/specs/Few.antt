@@ -5,9 +5,9 @@ use Rattle.std.proofs.Math.Decide.{dec_lt, ℕ_discrete}
 use Rattle.lexical.specs.Tree.{Forest, nil, node, when}
 use Rattle.nodefile.specs.Height.{height}
 use Rattle.nodefile.specs.Reads.{Reads}
-use Rattle.nodefile.specs.Listed.{kind_at, value_at, isScope}
+use Rattle.nodefile.specs.Listed.{kind_at, value_at, is_scope}
 use Rattle.around.specs.Scopes.{descend}
-use Rattle.around.specs.Descent.{end_at, own_at, descend-past, descend-next, descend-in}
+use Rattle.around.specs.Descent.{end_at, own_at, descend_past, descend-next, descend_in}
 use Rattle.around.specs.Opens.{range, opens, range_none}
 
 some_of : (b : Bool) (xs : List ℕ) → length (cond b xs []) ≤ length xs
@@ -32,10 +32,10 @@ module _ (ns : List ℕ) (x : ℕ) where
         | no c ↦ let u = few rs g q e inner l (omega arith) i (omega (arith, o.past)) o.after in
             omega (arith, u, ap length (descend-next ns x p e inner g h (omega arith)))
         | yes c ↦ let step : length (descend (suc g) ns x p e inner) ≡ length (cond (eqb q e) inner []) + length below =
-            ap length (descend-in ns x p e inner g h c) ∙ length-append (cond (eqb q e) inner []) below in
+            ap length (descend_in ns x p e inner g h c) ∙ length-append (cond (eqb q e) inner []) below in
             elim (ℕ_discrete x p) [
-              | yes z ↦ omega (arith, step, some_of (eqb q e) inner, ap length (descend-past ns x (p + 1) q (own_at ns p) g (omega arith)))
+              | yes z ↦ omega (arith, step, some_of (eqb q e) inner, ap length (descend_past ns x (p + 1) q (own_at ns p) g (omega arith)))
               | no z ↦ let u = few ks g (p + 1) q (own_at ns p) (omega (arith, o.inside)) (omega arith) c (omega arith) o.under in
-                  omega (arith, step, some_of (eqb q e) inner, one_at_most (isScope (kind_at ns p)) (value_at ns p), u)
+                  omega (arith, step, some_of (eqb q e) inner, one_at_most (is_scope (kind_at ns p)) (value_at ns p), u)
             ]
       ]

@@ -7,10 +7,10 @@ use Rattle.std.proofs.Common.{ap, ◌∙◌, subst, subst₂, arith, eq-eqb, ne_
 use Rattle.lexical.specs.Tree.{Forest, nil, node, empty}
 use Rattle.nodefile.specs.Node.{size_of}
 use Rattle.nodefile.specs.Reads.{Reads}
-use Rattle.nodefile.specs.Trees.{stretch, stretch-length, stretch-size, stretch-after, stretch-below}
-use Rattle.nodefile.specs.Parts.{kind-take, value-take}
+use Rattle.nodefile.specs.Trees.{stretch, stretch-length, stretch_size, stretch-after, stretch-below}
+use Rattle.nodefile.specs.Parts.{kind_take, value_take}
 use Rattle.nodefile.specs.Listed.{kind_at, size_at, value_at}
-use Rattle.around.specs.Ends.{end-some}
+use Rattle.around.specs.Ends.{end_some}
 use Rattle.around.specs.Descent.{end_at}
 
 -- the nodes from p up to e
@@ -42,8 +42,8 @@ pub record Opens (ns : List ℕ) (p e a k v : ℕ) (ks rs : Forest) : Type 0 whe
 pub opens : (ns : List ℕ) (p e a k v : ℕ) (ks rs : Forest) → 8 * e ≤ length ns → p ≤ e → Reads (range ns p e) p (node a k v ks rs) → Opens ns p e a k v ks rs
 opens ns p e a k v ks rs l h r = record {
   number = r.number;
-  kind = r.kind ∙ kind-take (drop (8 * p) ns) (8 * (e - p)) (omega (arith, fits, r.some));
-  value = r.value ∙ value-take (drop (8 * p) ns) (8 * (e - p)) (omega (arith, fits, r.some));
+  kind = r.kind ∙ kind_take (drop (8 * p) ns) (8 * (e - p)) (omega (arith, fits, r.some));
+  value = r.value ∙ value_take (drop (8 * p) ns) (8 * (e - p)) (omega (arith, fits, r.some));
   past = omega (arith, r.some, size, ends);
   inside = omega (arith, fits, size, ends);
   under = inner;
@@ -58,10 +58,10 @@ opens ns p e a k v ks rs l h r = record {
     fits = omega (arith, long, r.inside)
 
     size : size_of (stretch ns p (e - p)) ≡ size_at ns p
-    size = stretch-size ns p (e - p) (omega (arith, fits, r.some))
+    size = stretch_size ns p (e - p) (omega (arith, fits, r.some))
 
     ends : end_at ns p e ≡ p + size_at ns p
-    ends = omega (arith, end-some (size_at ns p) p e (λ z. omega (arith, r.some, size)), fits, size)
+    ends = omega (arith, end_some (size_at ns p) p e (λ z. omega (arith, r.some, size)), fits, size)
 
     inner : Reads (range ns (p + 1) (end_at ns p e)) (p + 1) ks
     inner =

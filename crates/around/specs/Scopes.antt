@@ -2,8 +2,8 @@
 use Rattle.std.specs.Prelude.{ℕ, zero, suc, ◌+◌, ◌/◌, ◌≡◌, cond, List, [], ◌∷◌, ◌++◌, eqb, leb, ltb, length, get_or}
 use Rattle.base.specs.UpTo.{up_to}
 use Rattle.lexical.specs.Tree.{when}
-use Rattle.nodefile.specs.Layout.{nodesOf}
-use Rattle.nodefile.specs.Listed.{kind_at, size_at, value_at, isScope}
+use Rattle.nodefile.specs.Layout.{nodes_of}
+use Rattle.nodefile.specs.Listed.{kind_at, size_at, value_at, is_scope}
 use Rattle.around.specs.Ends.{end_in}
 
 -- down from siblings, which begin at node p and end at e, to node x: the scopes that are entered on the way. The last of the siblings
@@ -14,15 +14,15 @@ descend (suc f) ns x p e inner =
     let q = end_in (size_at ns p) p e in
     cond (ltb x p) []
     (cond (leb q x) (descend f ns x q e inner)
-    (cond (eqb q e) inner [] ++ descend f ns x (p + 1) q (when (isScope (kind_at ns p)) (value_at ns p))))
+    (cond (eqb q e) inner [] ++ descend f ns x (p + 1) q (when (is_scope (kind_at ns p)) (value_at ns p))))
 
 -- how many nodes the bytes have
 abbrev pub counted : List ℕ → ℕ
 counted ns = length ns / 8
 
 -- the module's scope, and those on the way down to node x; none if there is no such node
-unfoldable pub scopesAt : List ℕ → ℕ → List ℕ
-scopesAt bs x = let ns = nodesOf bs in cond (ltb x (counted ns)) (0 ∷ descend (suc x) ns x 0 (counted ns) []) []
+unfoldable pub scopes_at : List ℕ → ℕ → List ℕ
+scopes_at bs x = let ns = nodes_of bs in cond (ltb x (counted ns)) (0 ∷ descend (suc x) ns x 0 (counted ns) []) []
 
 -- as many of a list as fit into n places, and zeros behind
 abbrev pub fitted : ℕ → List ℕ → List ℕ

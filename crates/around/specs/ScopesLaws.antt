@@ -9,14 +9,14 @@ use mathlib.Core.List.{List, [], ◌∷◌, ◌++◌, reverse, append_assoc, app
 use native.Mathlib.Omega.{arith}
 use Rattle.std.proofs.Math.Decide.{dec_lt, ℕ_discrete}
 use Rattle.lexical.specs.Lists.{or_else}
-use Rattle.lexical.specs.Tree.{Forest, nil, node, Way, way, isFn, when, empty}
+use Rattle.lexical.specs.Tree.{Forest, nil, node, Way, way, is_fn, when, empty}
 use Rattle.lexical.specs.Binders.{Names, Target, targets}
-use Rattle.lexical.specs.Meaning.{Around, around, scopesOf}
+use Rattle.lexical.specs.Meaning.{Around, around, scopes_of}
 use Rattle.lexical.specs.Claims.{ancestors}
 use Rattle.nodefile.specs.Reads.{Reads}
-use Rattle.nodefile.specs.Listed.{isScope}
+use Rattle.nodefile.specs.Listed.{is_scope}
 use Rattle.around.specs.Scopes.{descend}
-use Rattle.around.specs.Descent.{end_at, own_at, descend-past, descend-next, descend-in}
+use Rattle.around.specs.Descent.{end_at, own_at, descend_past, descend-next, descend_in}
 use Rattle.around.specs.Opens.{range, Opens, opens, range_none}
 use Rattle.around.specs.Above.{turned, outside}
 
@@ -25,7 +25,7 @@ module _ (N : Names) (ns : List ℕ) (x : ℕ) where
   pub record Entered (f : Forest) (w : Way) (s : ℕ) (ts : List Target) (b : Bool) (up : List Around) (found : List ℕ) : Type 0 where
     pub above : List Around
     pub are : ancestors N x f w s ts b up ≡ some above
-    pub scopes : reverse (scopesOf above) ≡ reverse (scopesOf up) ++ found
+    pub scopes : reverse (scopes_of above) ≡ reverse (scopes_of up) ++ found
 
   -- the first of the siblings, and those behind it
   module _ {a k v : ℕ} {ks rs : Forest} (g p e : ℕ) (l : 8 * e ≤ length ns) (h : p ≤ x) (o : Opens ns p e a k v ks rs) (w : Way) (s : ℕ) (ts : List Target) (b : Bool) (up : List Around) where
@@ -35,45 +35,45 @@ module _ (N : Names) (ns : List ℕ) (x : ℕ) where
 
     -- the scope that is entered there
     abbrev one : List ℕ
-    one = cond (eqb (end_at ns p e) e) (when (isFn w) s) []
+    one = cond (eqb (end_at ns p e) e) (when (is_fn w) s) []
 
     Goal : Type 0
-    Goal = Entered (node a k v ks rs) w s ts b up (descend (suc g) ns x p e (when (isFn w) s))
+    Goal = Entered (node a k v ks rs) w s ts b up (descend (suc g) ns x p e (when (is_fn w) s))
 
-    enters : reverse (scopesOf here) ≡ reverse (scopesOf up) ++ one
-    enters = turned w s ts b (empty rs) up ∙ ap (λ (t : Bool). reverse (scopesOf up) ++ cond t (when (isFn w) s) []) o.last
+    enters : reverse (scopes_of here) ≡ reverse (scopes_of up) ++ one
+    enters = turned w s ts b (empty rs) up ∙ ap (λ (t : Bool). reverse (scopes_of up) ++ cond t (when (is_fn w) s) []) o.last
 
     itself : x < end_at ns p e → x ≡ p → Goal
     unfolding Goal
     itself d c = record {
       above = here;
       are = unfold ancestors in (rw (eq-eqb a x (omega (arith, o.number))) refl);
-      scopes = enters ∙ ap (λ (m : List ℕ). reverse (scopesOf up) ++ m)
-          (sym (descend-in ns x p e (when (isFn w) s) g h d ∙ ap (λ (m : List ℕ). one ++ m) (descend-past ns x (p + 1) (end_at ns p e) (own_at ns p) g (omega arith)) ∙ append-nil one));
+      scopes = enters ∙ ap (λ (m : List ℕ). reverse (scopes_of up) ++ m)
+          (sym (descend_in ns x p e (when (is_fn w) s) g h d ∙ ap (λ (m : List ℕ). one ++ m) (descend_past ns x (p + 1) (end_at ns p e) (own_at ns p) g (omega arith)) ∙ append-nil one));
     }
 
-    inner : x < end_at ns p e → p < x → Entered ks (way k) v (targets N k ks) true here (descend g ns x (p + 1) (end_at ns p e) (when (isFn (way k)) v)) → Goal
+    inner : x < end_at ns p e → p < x → Entered ks (way k) v (targets N k ks) true here (descend g ns x (p + 1) (end_at ns p e) (when (is_fn (way k)) v)) → Goal
     unfolding Goal
     inner d c u = record {
       above = u.above;
       are = unfold ancestors or_else in (rw (ne_eqb a x (λ z. omega (arith, o.number)), u.are) refl);
-      scopes = u.scopes ∙ ap (λ (m : List ℕ). m ++ descend g ns x (p + 1) (end_at ns p e) (when (isFn (way k)) v)) enters
-          ∙ append_assoc (reverse (scopesOf up)) one (descend g ns x (p + 1) (end_at ns p e) (when (isFn (way k)) v))
-          ∙ ap (λ (m : List ℕ). reverse (scopesOf up) ++ (one ++ descend g ns x (p + 1) (end_at ns p e) m)) (ap₂ (λ (i j : ℕ). when (isScope i) j) o.kind o.value)
-          ∙ ap (λ (m : List ℕ). reverse (scopesOf up) ++ m) (sym (descend-in ns x p e (when (isFn w) s) g h d));
+      scopes = u.scopes ∙ ap (λ (m : List ℕ). m ++ descend g ns x (p + 1) (end_at ns p e) (when (is_fn (way k)) v)) enters
+          ∙ append_assoc (reverse (scopes_of up)) one (descend g ns x (p + 1) (end_at ns p e) (when (is_fn (way k)) v))
+          ∙ ap (λ (m : List ℕ). reverse (scopes_of up) ++ (one ++ descend g ns x (p + 1) (end_at ns p e) m)) (ap₂ (λ (i j : ℕ). when (is_scope i) j) o.kind o.value)
+          ∙ ap (λ (m : List ℕ). reverse (scopes_of up) ++ m) (sym (descend_in ns x p e (when (is_fn w) s) g h d));
     }
 
-    later : end_at ns p e ≤ x → Entered rs w s ts false up (descend g ns x (end_at ns p e) e (when (isFn w) s)) → Goal
+    later : end_at ns p e ≤ x → Entered rs w s ts false up (descend g ns x (end_at ns p e) e (when (is_fn w) s)) → Goal
     unfolding Goal
     later d u = record {
       above = u.above;
       are = unfold ancestors or_else in
           (rw (ne_eqb a x (λ z. omega (arith, o.number, o.past)), outside N ns x ks (p + 1) (end_at ns p e) (omega (arith, o.inside)) (omega (arith, o.past)) o.under (λ m n. omega arith) (way k) v (targets N k ks) true here) u.are);
-      scopes = u.scopes ∙ ap (λ (m : List ℕ). reverse (scopesOf up) ++ m) (sym (descend-next ns x p e (when (isFn w) s) g h d));
+      scopes = u.scopes ∙ ap (λ (m : List ℕ). reverse (scopes_of up) ++ m) (sym (descend-next ns x p e (when (is_fn w) s) g h d));
     }
 
   pub entered : (f : Forest) (g p e : ℕ) → 8 * e ≤ length ns → p ≤ x → x < e → x < p + g → Reads (range ns p e) p f
-      → (w : Way) (s : ℕ) (ts : List Target) (b : Bool) (up : List Around) → Entered f w s ts b up (descend g ns x p e (when (isFn w) s))
+      → (w : Way) (s : ℕ) (ts : List Target) (b : Bool) (up : List Around) → Entered f w s ts b up (descend g ns x p e (when (is_fn w) s))
   unfolding Goal
   entered nil g p e l h i j r w s ts b up = let z : ⊥ = omega (arith, range_none ns p e l (omega arith) r) in absurd z
   entered (node a k v ks rs) zero p e l h i j r w s ts b up = let z : ⊥ = omega arith in absurd z

@@ -5,15 +5,15 @@ mod place;
 mod table;
 
 ghost use Rattle.std.specs.Prelude.{◌≡◌, length};
-ghost use Rattle.around.specs.Scopes.{scopesAt, Holds};
-ghost use Rattle.around.specs.Outer.{outerTable};
+ghost use Rattle.around.specs.Scopes.{scopes_at, Holds};
+ghost use Rattle.around.specs.Outer.{outer_table};
 
 // How deep a tree may be (document 01, number 9).
 const LEVELS: usize = 64;
 
 // Puts the scopes around a node into out, outermost first, as many as fit, and zeros behind; returns how many they are.
 pub fn scopes(file: &[u8], node: usize, out: &mut [u32]) -> usize
-    ensures { Holds (scopesAt file.now node) result out.old out.new }
+    ensures { Holds (scopes_at file.now node) result out.old out.new }
 {
     place::clear(out);
     let ns = nodefile::nodes(file);
@@ -25,7 +25,7 @@ pub fn scopes(file: &[u8], node: usize, out: &mut [u32]) -> usize
 
 // Puts the scope directly around each Def's and Lambda's own at its scope number in out, where out has that place; zeros elsewhere.
 pub fn outer(file: &[u8], out: &mut [u32])
-    ensures { out.new ≡ outerTable file.now (length out.old) }
+    ensures { out.new ≡ outer_table file.now (length out.old) }
 {
     place::clear(out);
     let ns = nodefile::nodes(file);

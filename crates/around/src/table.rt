@@ -1,7 +1,7 @@
 // All nodes, and the scope that each Def and Lambda stands in.
 ghost use Rattle.std.specs.Prelude.{◌≡◌, cond, ℕ, ◌+◌, ◌^◌, ◌≤◌, ◌<◌};
 ghost use Rattle.lexical.specs.Tree.{when};
-ghost use Rattle.around.specs.Outer.{outerIn, stored};
+ghost use Rattle.around.specs.Outer.{outer_in, stored};
 
 use crate::{ends, place};
 use nodefile::kinds;
@@ -35,7 +35,7 @@ pub fn within(
     out: &mut [u32],
 )
     requires { to < 2 ^ 16 }
-    ensures { (f : ℕ) → to ≤ from + f → out.new ≡ stored (outerIn f levels ns.now from to scope inner) out.old }
+    ensures { (f : ℕ) → to ≤ from + f → out.new ≡ stored (outer_in f levels ns.now from to scope inner) out.old }
 {
     if levels == 0 {
         return;

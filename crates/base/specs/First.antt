@@ -76,8 +76,8 @@ none_after (n when C ∷ xs) ys h = none_after xs ys h.1
 
 -- ---- the condition of a number
 module _ (n : ℕ) (C : Type 0) (rows : List Row) (k : ℕ) where
-  pub at-cases : At (n when C ∷ rows) k → ((n ≡ k) × C) ⊎ At rows k
-  at-cases a = pick (eqb n k) refl a
+  pub at_cases : At (n when C ∷ rows) k → ((n ≡ k) × C) ⊎ At rows k
+  at_cases a = pick (eqb n k) refl a
     where
       pick : (b : Bool) → eqb n k ≡ b → cond b C (At rows k) → ((n ≡ k) × C) ⊎ At rows k
       pick true e c = inl (eqb-true n k e, c)
@@ -91,4 +91,4 @@ module _ (n : ℕ) (C : Type 0) (rows : List Row) (k : ℕ) where
 
 pub none-at : (rows : List Row) → NoneHolds rows → (k : ℕ) → At rows k → ⊥
 none-at [] h k a = a
-none-at (n when C ∷ rows) h k a = elim (at-cases n C rows k a) [ inl c ↦ h.0 c.1 | inr b ↦ none-at rows h.1 k b ]
+none-at (n when C ∷ rows) h k a = elim (at_cases n C rows k a) [ inl c ↦ h.0 c.1 | inr b ↦ none-at rows h.1 k b ]

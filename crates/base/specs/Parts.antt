@@ -24,8 +24,8 @@ module _ {A : Type 0} where
   pub part_length : (s : List A) (a k : ℕ) → a + k ≤ length s → length (take k (drop a s)) ≡ k
   part_length s a k h = length-take k (drop a s) ∙ min-eq_left (omega (arith, length-drop a s))
 
-  pub part-past : (s : List A) (a k : ℕ) → length s ≤ a → take k (drop a s) ≡ []
-  part-past s a k h = ap (take k) (drop_of_length-le s h) ∙ take-nil k
+  pub part_past : (s : List A) (a k : ℕ) → length s ≤ a → take k (drop a s) ≡ []
+  part_past s a k h = ap (take k) (drop_of_length-le s h) ∙ take-nil k
 
-  pub part-rest : (s : List A) (a k : ℕ) → length s - a ≤ k → take k (drop a s) ≡ drop a s
-  part-rest s a k h = take_all k (drop a s) (omega (arith, length-drop a s))
+  pub part_rest : (s : List A) (a k : ℕ) → length s - a ≤ k → take k (drop a s) ≡ drop a s
+  part_rest s a k h = take_all k (drop a s) (omega (arith, length-drop a s))

@@ -2,7 +2,7 @@
 use Rattle.std.specs.Prelude.{ℕ, ◌≤◌, ◌<◌, ◌≡◌, refl, Bool, true, false, cond, not, List, [], ◌∷◌, eqb, ltb, T}
 use Rattle.std.proofs.Common.{sym, ap, ◌∙◌, subst, inl, inr, arith, ltb→lt}
 use Rattle.base.specs.Table.{both, both_left, both_right}
-use Rattle.base.specs.First.{Row, ◌when◌, First, here, later, At, at-cases, at_here, at-later}
+use Rattle.base.specs.First.{Row, ◌when◌, First, here, later, At, at_cases, at_here, at-later}
 
 -- each number stands once
 abbrev pub named : ℕ → List Row → Bool
@@ -38,25 +38,25 @@ at_above : (rows : List Row) (m k : ℕ) → T (rising m rows) → At rows k →
 at_above [] m k t a = absurd a
 at_above (n when C ∷ rows) m k t a =
     let h = ltb→lt m n (both_left (ltb m n) (rising n rows) t) in
-    elim (at-cases n C rows k a) [ inl c ↦ omega (arith, c.0) | inr b ↦ omega (arith, at_above rows n k (both_right (ltb m n) (rising n rows) t) b) ]
+    elim (at_cases n C rows k a) [ inl c ↦ omega (arith, c.0) | inr b ↦ omega (arith, at_above rows n k (both_right (ltb m n) (rising n rows) t) b) ]
 
 -- the smallest number whose condition holds, 0 if none
 pub data Smallest (rows : List Row) (r : ℕ) : Type 0 where
   smallest : At rows r → ((k : ℕ) → At rows k → r ≤ k) → Smallest rows r
   none : r ≡ 0 → ((k : ℕ) → At rows k → ⊥) → Smallest rows r
 
-rising-smallest : (rows : List Row) (m r : ℕ) → T (rising m rows) → First rows r → Smallest rows r
-rising-smallest [] m r t e = none e (λ k a. a)
-rising-smallest (n when C ∷ rows) m r t (here c e) =
+rising_smallest : (rows : List Row) (m r : ℕ) → T (rising m rows) → First rows r → Smallest rows r
+rising_smallest [] m r t e = none e (λ k a. a)
+rising_smallest (n when C ∷ rows) m r t (here c e) =
     let up = both_right (ltb m n) (rising n rows) t in
-    smallest (at_here n C rows r (sym e) c) (λ k a. elim (at-cases n C rows k a) [ inl d ↦ omega (arith, e, d.0) | inr b ↦ omega (arith, e, at_above rows n k up b) ])
-rising-smallest (n when C ∷ rows) m r t (later c f) =
+    smallest (at_here n C rows r (sym e) c) (λ k a. elim (at_cases n C rows k a) [ inl d ↦ omega (arith, e, d.0) | inr b ↦ omega (arith, e, at_above rows n k up b) ])
+rising_smallest (n when C ∷ rows) m r t (later c f) =
     let up = both_right (ltb m n) (rising n rows) t in
-    elim (rising-smallest rows n r up f) [
-      | smallest a l ↦ smallest (at-later n C rows r (λ e. omega (arith, e, at_above rows n r up a)) a) (λ k b. elim (at-cases n C rows k b) [ inl d ↦ absurd (c d.1) | inr g ↦ l k g ])
-      | none e l ↦ none e (λ k b. elim (at-cases n C rows k b) [ inl d ↦ c d.1 | inr g ↦ l k g ])
+    elim (rising_smallest rows n r up f) [
+      | smallest a l ↦ smallest (at-later n C rows r (λ e. omega (arith, e, at_above rows n r up a)) a) (λ k b. elim (at_cases n C rows k b) [ inl d ↦ absurd (c d.1) | inr g ↦ l k g ])
+      | none e l ↦ none e (λ k b. elim (at_cases n C rows k b) [ inl d ↦ c d.1 | inr g ↦ l k g ])
     ]
 
 -- there the first is the smallest
-pub first-smallest : (rows : List Row) (r : ℕ) → T (rising 0 rows) → First rows r → Smallest rows r
-first-smallest rows r t f = rising-smallest rows 0 r t f
+pub first_smallest : (rows : List Row) (r : ℕ) → T (rising 0 rows) → First rows r → Smallest rows r
+first_smallest rows r t f = rising_smallest rows 0 r t f

@@ -11,10 +11,10 @@ unfoldable pub tally : (ℕ → Bool) → ℕ → ℕ
 tally p zero = 0
 tally p (suc n) = cond (p n) (suc (tally p n)) (tally p n)
 
-pub tally-all : (n : ℕ) → tally (λ i. true) n ≡ n
+pub tally_all : (n : ℕ) → tally (λ i. true) n ≡ n
 unfolding tally
-tally-all zero = refl
-tally-all (suc n) = ap suc (tally-all n)
+tally_all zero = refl
+tally_all (suc n) = ap suc (tally_all n)
 
 -- the same, counted from 0 on
 pub tally-front : (p : ℕ → Bool) (n : ℕ) → tally p (suc n) ≡ cond (p 0) (suc (tally (λ i. p (suc i)) n)) (tally (λ i. p (suc i)) n)
@@ -35,8 +35,8 @@ module _ {A : Type 0} where
   at_right (x ∷ xs) ys zero h = absurd (omega arith)
   at_right (x ∷ xs) ys (suc i) h = let e : suc i - suc (length xs) ≡ i - length xs = omega arith in rw e (at_right xs ys i (omega arith))
 
-  pub at-behind : (xs ys : List A) (i : ℕ) → get_elem? (xs ++ ys) (length xs + i) ≡ get_elem? ys i
-  at-behind xs ys i = let e : length xs + i - length xs ≡ i = omega arith in at_right xs ys (length xs + i) (omega arith) ∙ rw e refl
+  pub at_behind : (xs ys : List A) (i : ℕ) → get_elem? (xs ++ ys) (length xs + i) ≡ get_elem? ys i
+  at_behind xs ys i = let e : length xs + i - length xs ≡ i = omega arith in at_right xs ys (length xs + i) (omega arith) ∙ rw e refl
 
   -- a place holds something where it is in the list
   pub at_some : (xs : List A) (i : ℕ) → i < length xs → (a : A) × (get_elem? xs i ≡ some a)
@@ -49,37 +49,37 @@ module _ {A : Type 0} where
   up_to f (suc n) = f 0 ∷ up_to (λ k. f (suc k)) n
 
   -- one more, at the end
-  pub upTo-snoc : (f : ℕ → A) (n : ℕ) → up_to f (suc n) ≡ up_to f n ++ (f n ∷ [])
+  pub up_to_snoc : (f : ℕ → A) (n : ℕ) → up_to f (suc n) ≡ up_to f n ++ (f n ∷ [])
   unfolding up_to
-  upTo-snoc f zero = refl
-  upTo-snoc f (suc n) = ap (λ (l : List A). f 0 ∷ l) (upTo-snoc (λ k. f (suc k)) n)
+  up_to_snoc f zero = refl
+  up_to_snoc f (suc n) = ap (λ (l : List A). f 0 ∷ l) (up_to_snoc (λ k. f (suc k)) n)
 
   -- its front
-  pub upTo-front : (f : ℕ → A) (k n : ℕ) → k ≤ n → (ys : List A) × (up_to f n ≡ up_to f k ++ ys)
+  pub up_to_front : (f : ℕ → A) (k n : ℕ) → k ≤ n → (ys : List A) × (up_to f n ≡ up_to f k ++ ys)
   unfolding up_to
-  upTo-front f zero n h = (up_to f n, refl)
-  upTo-front f (suc k) zero h = absurd (omega arith)
-  upTo-front f (suc k) (suc n) h = let r = upTo-front (λ k. f (suc k)) k n (omega arith) in (r.0, ap (λ (l : List A). f 0 ∷ l) r.1)
+  up_to_front f zero n h = (up_to f n, refl)
+  up_to_front f (suc k) zero h = absurd (omega arith)
+  up_to_front f (suc k) (suc n) h = let r = up_to_front (λ k. f (suc k)) k n (omega arith) in (r.0, ap (λ (l : List A). f 0 ∷ l) r.1)
 
-  pub upTo-length : (f : ℕ → A) (n : ℕ) → length (up_to f n) ≡ n
+  pub up_to_length : (f : ℕ → A) (n : ℕ) → length (up_to f n) ≡ n
   unfolding up_to
-  upTo-length f zero = refl
-  upTo-length f (suc n) = ap suc (upTo-length (λ k. f (suc k)) n)
+  up_to_length f zero = refl
+  up_to_length f (suc n) = ap suc (up_to_length (λ k. f (suc k)) n)
 
-  pub upTo-at : (f : ℕ → A) (n k : ℕ) → k < n → get_elem? (up_to f n) k ≡ some (f k)
+  pub up_to_at : (f : ℕ → A) (n k : ℕ) → k < n → get_elem? (up_to f n) k ≡ some (f k)
   unfolding up_to
-  upTo-at f zero k h = absurd (omega arith)
-  upTo-at f (suc n) zero h = refl
-  upTo-at f (suc n) (suc k) h = upTo-at (λ k. f (suc k)) n k (omega arith)
+  up_to_at f zero k h = absurd (omega arith)
+  up_to_at f (suc n) zero h = refl
+  up_to_at f (suc n) (suc k) h = up_to_at (λ k. f (suc k)) n k (omega arith)
 
-  pub upTo-get : (f : ℕ → A) (n k : ℕ) (d : A) → k < n → get_or (up_to f n) k d ≡ f k
+  pub up_to_get : (f : ℕ → A) (n k : ℕ) (d : A) → k < n → get_or (up_to f n) k d ≡ f k
   unfolding up_to
-  upTo-get f zero k d h = absurd (omega arith)
-  upTo-get f (suc n) zero d h = refl
-  upTo-get f (suc n) (suc k) d h = upTo-get (λ k. f (suc k)) n k d (omega arith)
+  up_to_get f zero k d h = absurd (omega arith)
+  up_to_get f (suc n) zero d h = refl
+  up_to_get f (suc n) (suc k) d h = up_to_get (λ k. f (suc k)) n k d (omega arith)
 
   -- a list is what stands at its places
-  pub upTo-is : (f : ℕ → A) (xs : List A) → ((i : ℕ) (a : A) → get_elem? xs i ≡ some a → a ≡ f i) → xs ≡ up_to f (length xs)
+  pub up_to_is : (f : ℕ → A) (xs : List A) → ((i : ℕ) (a : A) → get_elem? xs i ≡ some a → a ≡ f i) → xs ≡ up_to f (length xs)
   unfolding up_to
-  upTo-is f [] h = refl
-  upTo-is f (x ∷ xs) h = ap₂ ◌∷◌ (h 0 x refl) (upTo-is (λ k. f (suc k)) xs (λ i a e. h (suc i) a e))
+  up_to_is f [] h = refl
+  up_to_is f (x ∷ xs) h = ap₂ ◌∷◌ (h 0 x refl) (up_to_is (λ k. f (suc k)) xs (λ i a e. h (suc i) a e))

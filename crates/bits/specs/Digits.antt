@@ -8,8 +8,8 @@ use Rattle.std.proofs.Common.{◌∙◌, subst, arith, mod-lt, pow_pos, pow-add,
 use Rattle.std.proofs.Math.Arith.{digits_lt}
 use Rattle.std.proofs.Math.Pow.{high, low, field, mod-mod-pow}
 
-pub join-lt : (q r a b : ℕ) → q < 2 ^ a → r < 2 ^ b → q * 2 ^ b + r < 2 ^ (a + b)
-join-lt q r a b h l = subst (λ (x : ℕ). q * 2 ^ b + r < x) (sym (pow-add 2 a b)) (digits_lt h l)
+pub join_lt : (q r a b : ℕ) → q < 2 ^ a → r < 2 ^ b → q * 2 ^ b + r < 2 ^ (a + b)
+join_lt q r a b h l = subst (λ (x : ℕ). q * 2 ^ b + r < x) (sym (pow-add 2 a b)) (digits_lt h l)
 
 pub bit_high : (x y t m : ℕ) → x / 2 ^ t ≡ y / 2 ^ t → t ≤ m → x / 2 ^ m % 2 ≡ y / 2 ^ m % 2
 bit_high x y t m e h =
@@ -29,33 +29,33 @@ unfoldable pub splice : ℕ → ℕ → ℕ → ℕ → ℕ
 splice x n j v = x / 2 ^ (n + j) * 2 ^ (n + j) + (v % 2 ^ n * 2 ^ j + x % 2 ^ j)
 
 module _ (x n j v : ℕ) where
-  lower-lt : v % 2 ^ n * 2 ^ j + x % 2 ^ j < 2 ^ (n + j)
-  lower-lt = join-lt (v % 2 ^ n) (x % 2 ^ j) n j (mod-lt v (pow_pos n)) (mod-lt x (pow_pos j))
+  lower_lt : v % 2 ^ n * 2 ^ j + x % 2 ^ j < 2 ^ (n + j)
+  lower_lt = join_lt (v % 2 ^ n) (x % 2 ^ j) n j (mod-lt v (pow_pos n)) (mod-lt x (pow_pos j))
 
-  pub splice-above : splice x n j v / 2 ^ (n + j) ≡ x / 2 ^ (n + j)
+  pub splice_above : splice x n j v / 2 ^ (n + j) ≡ x / 2 ^ (n + j)
   unfolding splice
-  splice-above = high (x / 2 ^ (n + j)) (n + j) lower-lt
+  splice_above = high (x / 2 ^ (n + j)) (n + j) lower_lt
 
-  pub splice-in : splice x n j v / 2 ^ j % 2 ^ n ≡ v % 2 ^ n
+  pub splice_in : splice x n j v / 2 ^ j % 2 ^ n ≡ v % 2 ^ n
   unfolding splice
-  splice-in =
+  splice_in =
       sym (field (splice x n j v) n j)
-      ∙ ap (λ (z : ℕ). z / 2 ^ j) (low (x / 2 ^ (n + j)) (n + j) lower-lt)
+      ∙ ap (λ (z : ℕ). z / 2 ^ j) (low (x / 2 ^ (n + j)) (n + j) lower_lt)
       ∙ high (v % 2 ^ n) j (mod-lt x (pow_pos j))
 
   pub splice-below : splice x n j v % 2 ^ j ≡ x % 2 ^ j
   unfolding splice
   splice-below =
       sym (mod-mod-pow (splice x n j v) n j)
-      ∙ ap (λ (z : ℕ). z % 2 ^ j) (low (x / 2 ^ (n + j)) (n + j) lower-lt)
+      ∙ ap (λ (z : ℕ). z % 2 ^ j) (low (x / 2 ^ (n + j)) (n + j) lower_lt)
       ∙ low (v % 2 ^ n) j (mod-lt x (pow_pos j))
 
-  pub splice-lt : (k : ℕ) → x < 2 ^ (k + (n + j)) → splice x n j v < 2 ^ (k + (n + j))
+  pub splice_lt : (k : ℕ) → x < 2 ^ (k + (n + j)) → splice x n j v < 2 ^ (k + (n + j))
   unfolding splice
-  splice-lt k h = join-lt (x / 2 ^ (n + j)) (v % 2 ^ n * 2 ^ j + x % 2 ^ j) k (n + j) (shr_lt k (n + j) h) lower-lt
+  splice_lt k h = join_lt (x / 2 ^ (n + j)) (v % 2 ^ n * 2 ^ j + x % 2 ^ j) k (n + j) (shr_lt k (n + j) h) lower_lt
 
   -- of a byte, a byte
-  pub splice-byte : n + j ≤ 8 → x < 256 → splice x n j v < 256
-  splice-byte h l =
+  pub splice_byte : n + j ≤ 8 → x < 256 → splice x n j v < 256
+  splice_byte h l =
       let e : 8 - (n + j) + (n + j) ≡ 8 = omega arith in
-      subst (λ (k : ℕ). splice x n j v < 2 ^ k) e (splice-lt (8 - (n + j)) (subst (λ (k : ℕ). x < 2 ^ k) (sym e) l))
+      subst (λ (k : ℕ). splice x n j v < 2 ^ k) e (splice_lt (8 - (n + j)) (subst (λ (k : ℕ). x < 2 ^ k) (sym e) l))

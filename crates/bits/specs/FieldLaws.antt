@@ -17,18 +17,18 @@ use Rattle.std.proofs.lemmas.Nat.{mod-pow-add}
 use Rattle.std.proofs.Math.ListN.{get_or-eq_default}
 use Rattle.bits.specs.Field.{bit_of, field_of, Field}
 
-pub bit-lt : (bs : List ℕ) (i : ℕ) → bit_of bs i < 2
+pub bit_lt : (bs : List ℕ) (i : ℕ) → bit_of bs i < 2
 unfolding bit_of
-bit-lt bs i = mod-lt (get_or bs (i / 8) 0 / 2 ^ (7 - i % 8)) (zero-lt-suc 1)
+bit_lt bs i = mod-lt (get_or bs (i / 8) 0 / 2 ^ (7 - i % 8)) (zero-lt-suc 1)
 
 pub field_lt : (bs : List ℕ) (at w : ℕ) → field_of bs at w < 2 ^ w
 unfolding field_of
 field_lt bs at zero = omega arith
-field_lt bs at (suc w) = omega (arith, pow-suc 2 w, field_lt bs at w, bit-lt bs (at + w))
+field_lt bs at (suc w) = omega (arith, pow-suc 2 w, field_lt bs at w, bit_lt bs (at + w))
 
 -- the bound as a number, for the widths that a reader takes
-pub field-lt-32 : (bs : List ℕ) (at w : ℕ) → w ≤ 32 → field_of bs at w < 4294967296
-field-lt-32 bs at w h = lt_of_lt_of_le (field_lt bs at w) (pow_mono {j = 32} h)
+pub field_lt_32 : (bs : List ℕ) (at w : ℕ) → w ≤ 32 → field_of bs at w < 4294967296
+field_lt_32 bs at w h = lt_of_lt_of_le (field_lt bs at w) (pow_mono {j = 32} h)
 
 pub field-split : (bs : List ℕ) (at v w : ℕ) → field_of bs at (v + w) ≡ field_of bs at v * 2 ^ w + field_of bs (at + v) w
 unfolding field_of
@@ -52,10 +52,10 @@ pub field-bit : (bs : List ℕ) (at u v : ℕ) → bit_of bs (at + u) ≡ field_
 unfolding field_of
 field-bit bs at u v = omega (arith, field-inner bs at u 1 v, ap (bit_of bs) (add-zero (at + u)))
 
-pub field-same : (bs cs : List ℕ) (a b w : ℕ) → ((k : ℕ) → k < w → bit_of bs (a + k) ≡ bit_of cs (b + k)) → field_of bs a w ≡ field_of cs b w
+pub field_same : (bs cs : List ℕ) (a b w : ℕ) → ((k : ℕ) → k < w → bit_of bs (a + k) ≡ bit_of cs (b + k)) → field_of bs a w ≡ field_of cs b w
 unfolding field_of
-field-same bs cs a b zero h = refl
-field-same bs cs a b (suc w) h = ap₂ (λ (x y : ℕ). x * 2 + y) (field-same bs cs a b w (λ k l. h k (omega arith))) (h w (omega arith))
+field_same bs cs a b zero h = refl
+field_same bs cs a b (suc w) h = ap₂ (λ (x y : ℕ). x * 2 + y) (field_same bs cs a b w (λ k l. h k (omega arith))) (h w (omega arith))
 
 -- ---- parts of the bytes, and a byte changed
 
@@ -83,14 +83,14 @@ unfolding bit_of
 bit-set bs a x i h = ap (λ (y : ℕ). y / 2 ^ (7 - i % 8) % 2) (get_or-set_other bs a (i / 8) x 0 h)
 
 pub field-drop : (bs : List ℕ) (a at w : ℕ) → field_of (drop a bs) at w ≡ field_of bs (8 * a + at) w
-field-drop bs a at w = field-same (drop a bs) bs at (8 * a + at) w (λ k h. bit-drop bs a (at + k) ∙ ap (bit_of bs) (sym (add_assoc (8 * a) at k)))
+field-drop bs a at w = field_same (drop a bs) bs at (8 * a + at) w (λ k h. bit-drop bs a (at + k) ∙ ap (bit_of bs) (sym (add_assoc (8 * a) at k)))
 
 -- a field of record k, in a list of records of n bytes
-pub field-record : (bs : List ℕ) (n k at w : ℕ) → field_of (drop (n * k) bs) at w ≡ field_of bs (8 * n * k + at) w
-field-record bs n k at w = field-drop bs (n * k) at w ∙ ap (λ (x : ℕ). field_of bs (x + at) w) (sym (mul_assoc 8 n k))
+pub field_record : (bs : List ℕ) (n k at w : ℕ) → field_of (drop (n * k) bs) at w ≡ field_of bs (8 * n * k + at) w
+field_record bs n k at w = field-drop bs (n * k) at w ∙ ap (λ (x : ℕ). field_of bs (x + at) w) (sym (mul_assoc 8 n k))
 
 pub field-take : (bs : List ℕ) (n at w : ℕ) → at + w ≤ 8 * n → field_of (take n bs) at w ≡ field_of bs at w
-field-take bs n at w h = field-same (take n bs) bs at at w (λ k l. bit-take bs n (at + k) (omega arith))
+field-take bs n at w h = field_same (take n bs) bs at at w (λ k l. bit-take bs n (at + k) (omega arith))
 
 pub field_past : (bs : List ℕ) (at w : ℕ) → 8 * length bs ≤ at → field_of bs at w ≡ 0
 unfolding field_of
@@ -98,57 +98,57 @@ field_past bs at zero h = refl
 field_past bs at (suc w) h = rw (field_past bs at w h, bit_past bs (at + w) (omega arith))
 
 pub field-set : (bs : List ℕ) (a x at w : ℕ) → (at + w ≤ 8 * a) ⊎ (8 * a + 8 ≤ at) → field_of (set bs a x) at w ≡ field_of bs at w
-field-set bs a x at w (inl h) = field-same (set bs a x) bs at at w (λ k l. bit-set bs a x (at + k) (λ e. omega arith))
-field-set bs a x at w (inr h) = field-same (set bs a x) bs at at w (λ k l. bit-set bs a x (at + k) (λ e. omega arith))
+field-set bs a x at w (inl h) = field_same (set bs a x) bs at at w (λ k l. bit-set bs a x (at + k) (λ e. omega arith))
+field-set bs a x at w (inr h) = field_same (set bs a x) bs at at w (λ k l. bit-set bs a x (at + k) (λ e. omega arith))
 
 -- ---- inside one byte, and whole bytes
 
-pub bit-in-byte : (bs : List ℕ) (a k j : ℕ) → k + j ≡ 7 → bit_of bs (8 * a + k) ≡ get_or bs a 0 / 2 ^ j % 2
+pub bit_in_byte : (bs : List ℕ) (a k j : ℕ) → k + j ≡ 7 → bit_of bs (8 * a + k) ≡ get_or bs a 0 / 2 ^ j % 2
 unfolding bit_of
-bit-in-byte bs a k j h =
+bit_in_byte bs a k j h =
     let p : (8 * a + k) / 8 ≡ a = omega arith in
     let q : 7 - (8 * a + k) % 8 ≡ j = omega arith in
     rw (p, q)
 
 -- the w bits that stand k bits into byte a, with j bits of the byte after them
-pub field-in-byte : (bs : List ℕ) (a k w j : ℕ) → k + w + j ≡ 8 → field_of bs (8 * a + k) w ≡ get_or bs a 0 / 2 ^ j % 2 ^ w
+pub field_in_byte : (bs : List ℕ) (a k w j : ℕ) → k + w + j ≡ 8 → field_of bs (8 * a + k) w ≡ get_or bs a 0 / 2 ^ j % 2 ^ w
 unfolding field_of
-field-in-byte bs a k zero j h = sym (mod-one (get_or bs a 0 / 2 ^ j))
-field-in-byte bs a k (suc w) j h =
+field_in_byte bs a k zero j h = sym (mod-one (get_or bs a 0 / 2 ^ j))
+field_in_byte bs a k (suc w) j h =
     let x = get_or bs a 0 in
-    let e : field_of bs (8 * a + k) w ≡ x / 2 ^ suc j % 2 ^ w = field-in-byte bs a k w (suc j) (omega arith) in
-    let b : bit_of bs (8 * a + k + w) ≡ x / 2 ^ j % 2 = rw add_assoc (bit-in-byte bs a (k + w) j (omega arith)) in
+    let e : field_of bs (8 * a + k) w ≡ x / 2 ^ suc j % 2 ^ w = field_in_byte bs a k w (suc j) (omega arith) in
+    let b : bit_of bs (8 * a + k + w) ≡ x / 2 ^ j % 2 = rw add_assoc (bit_in_byte bs a (k + w) j (omega arith)) in
     let d : x / 2 ^ j / 2 ≡ x / 2 ^ suc j = div-div-eq-div-mul x (2 ^ j) 2 ∙ ap (λ (y : ℕ). x / y) (sym (pow-suc 2 j)) in
     ap₂ (λ (y z : ℕ). y * 2 + z) (e ∙ ap (λ (y : ℕ). y % 2 ^ w) (sym d)) b
     ∙ sym (ap (λ (n : ℕ). x / 2 ^ j % 2 ^ n) (sym (add-one w)) ∙ mod-pow-add (x / 2 ^ j) w 1)
 
 -- a whole byte
-pub field-8 : (bs : List ℕ) (a : ℕ) → get_or bs a 0 < 256 → field_of bs (8 * a) 8 ≡ get_or bs a 0
-field-8 bs a h =
-    ap (λ (n : ℕ). field_of bs n 8) (sym (add-zero (8 * a))) ∙ field-in-byte bs a 0 8 0 refl
+pub field_8 : (bs : List ℕ) (a : ℕ) → get_or bs a 0 < 256 → field_of bs (8 * a) 8 ≡ get_or bs a 0
+field_8 bs a h =
+    ap (λ (n : ℕ). field_of bs n 8) (sym (add-zero (8 * a))) ∙ field_in_byte bs a 0 8 0 refl
     ∙ ap (λ (x : ℕ). x % 256) (div-one (get_or bs a 0)) ∙ mod-eq_of_lt h
 
 -- one byte more
-pub field-more : (bs : List ℕ) (a n : ℕ) → get_or bs (a + n) 0 < 256 → field_of bs (8 * a) (8 * suc n) ≡ field_of bs (8 * a) (8 * n) * 256 + get_or bs (a + n) 0
-field-more bs a n h =
+pub field_more : (bs : List ℕ) (a n : ℕ) → get_or bs (a + n) 0 < 256 → field_of bs (8 * a) (8 * suc n) ≡ field_of bs (8 * a) (8 * n) * 256 + get_or bs (a + n) 0
+field_more bs a n h =
     let e : 8 * a + 8 * n ≡ 8 * (a + n) = omega arith in
-    rw (mul-suc 8 n, field-split bs (8 * a) (8 * n) 8, e, field-8 bs (a + n) h)
+    rw (mul-suc 8 n, field-split bs (8 * a) (8 * n) 8, e, field_8 bs (a + n) h)
 
-pub field-16 : (bs : List ℕ) (a : ℕ) → get_or bs a 0 < 256 → get_or bs (a + 1) 0 < 256 → field_of bs (8 * a) 16 ≡ get_or bs a 0 * 256 + get_or bs (a + 1) 0
-field-16 bs a h₀ h₁ = rw (field-more bs a 1 h₁, field-8 bs a h₀)
+pub field_16 : (bs : List ℕ) (a : ℕ) → get_or bs a 0 < 256 → get_or bs (a + 1) 0 < 256 → field_of bs (8 * a) 16 ≡ get_or bs a 0 * 256 + get_or bs (a + 1) 0
+field_16 bs a h₀ h₁ = rw (field_more bs a 1 h₁, field_8 bs a h₀)
 
-pub field-24 : (bs : List ℕ) (a : ℕ) → get_or bs a 0 < 256 → get_or bs (a + 1) 0 < 256 → get_or bs (a + 2) 0 < 256
+pub field_24 : (bs : List ℕ) (a : ℕ) → get_or bs a 0 < 256 → get_or bs (a + 1) 0 < 256 → get_or bs (a + 2) 0 < 256
     → field_of bs (8 * a) 24 ≡ (get_or bs a 0 * 256 + get_or bs (a + 1) 0) * 256 + get_or bs (a + 2) 0
-field-24 bs a h₀ h₁ h₂ = rw (field-more bs a 2 h₂, field-16 bs a h₀ h₁)
+field_24 bs a h₀ h₁ h₂ = rw (field_more bs a 2 h₂, field_16 bs a h₀ h₁)
 
 -- ---- a reader's answer, at a width that it takes and at one that it does not
 
 pub field_is : (bs : List ℕ) (at w r : ℕ) → w ≤ 32 → r ≡ field_of bs at w → Field bs at w r
 field_is bs at w r h e = record { is = rw (le-leb w 32 h) e; below = subst (λ (x : ℕ). x < 2 ^ w) (sym e) (field_lt bs at w) }
 
-pub field-wide : (bs : List ℕ) (at w : ℕ) → 32 < w → Field bs at w 0
-field-wide bs at w h = record { is = rw (lt-leb w 32 h) refl; below = pow_pos w }
+pub field_wide : (bs : List ℕ) (at w : ℕ) → 32 < w → Field bs at w 0
+field_wide bs at w h = record { is = rw (lt-leb w 32 h) refl; below = pow_pos w }
 
 -- the answer, where the width is not written out
-pub field-read : {bs : List ℕ} {at w r : ℕ} → w ≤ 32 → Field bs at w r → r ≡ field_of bs at w
-field-read {bs} {at} {w} h f = rw (le-leb w 32 h) at f.is
+pub field_read : {bs : List ℕ} {at w r : ℕ} → w ≤ 32 → Field bs at w r → r ≡ field_of bs at w
+field_read {bs} {at} {w} h f = rw (le-leb w 32 h) at f.is

@@ -10,15 +10,15 @@ use Rattle.std.proofs.Math.Nat.{mod-one, add-mul-div_right, mul-add-mod_self_rig
 use Rattle.std.proofs.Math.Pow.{high}
 use Rattle.std.proofs.lemmas.Nat.{mod-pow-add}
 use Rattle.bits.specs.Field.{field_of}
-use Rattle.bits.specs.FieldLaws.{field_lt, field-split, field-8, field-drop}
-use Rattle.bits.specs.Digits.{join-lt}
+use Rattle.bits.specs.FieldLaws.{field_lt, field-split, field_8, field-drop}
+use Rattle.bits.specs.Digits.{join_lt}
 use Rattle.bits.specs.Put.{Written}
-use Rattle.bits.specs.PutLaws.{written-pair, written-fits}
+use Rattle.bits.specs.PutLaws.{written_pair, written_fits}
 use Rattle.bits.specs.Pack.{widths, values, total, Narrow, pack, unpack, fields_of, bytes_of}
 
-pub pack-lt : (fs : List (ℕ × ℕ)) → Narrow fs → pack fs < 2 ^ total (widths fs)
-pack-lt [] h = omega arith
-pack-lt (f ∷ fs) h = join-lt f.1 (pack fs) f.0 (total (widths fs)) h.0 (pack-lt fs h.1)
+pub pack_lt : (fs : List (ℕ × ℕ)) → Narrow fs → pack fs < 2 ^ total (widths fs)
+pack_lt [] h = omega arith
+pack_lt (f ∷ fs) h = join_lt f.1 (pack fs) f.0 (total (widths fs)) h.0 (pack_lt fs h.1)
 
 -- what stands above the fields does not matter
 pub unpack-low : (ws : List ℕ) (q x : ℕ) → unpack ws (q * 2 ^ total ws + x) ≡ unpack ws x
@@ -36,7 +36,7 @@ pub unpack-pack : (fs : List (ℕ × ℕ)) → Narrow fs → unpack (widths fs) 
 unpack-pack [] h = refl
 unpack-pack (f ∷ fs) h =
     ap₂ ◌∷◌
-    (ap (λ (y : ℕ). y % 2 ^ f.0) (high f.1 (total (widths fs)) (pack-lt fs h.1)) ∙ mod-eq_of_lt h.0)
+    (ap (λ (y : ℕ). y % 2 ^ f.0) (high f.1 (total (widths fs)) (pack_lt fs h.1)) ∙ mod-eq_of_lt h.0)
     (unpack-low (widths fs) f.1 (pack fs) ∙ unpack-pack fs h.1)
 
 -- two records of the same widths that give one number have the same values
@@ -70,9 +70,9 @@ fields-unpack bs at (w ∷ ws) =
     (sym (ap (λ (y : ℕ). y / 2 ^ s % 2 ^ w) e ∙ ap (λ (y : ℕ). y % 2 ^ w) (high (field_of bs at w) s (field_lt bs (at + w) s)) ∙ mod-eq_of_lt (field_lt bs at w)))
     (fields-unpack bs (at + w) ws ∙ sym (ap (unpack ws) e ∙ unpack-low ws (field_of bs at w) (field_of bs (at + w) s)))
 
-pub bytes-length : (n x : ℕ) → length (bytes_of n x) ≡ n
-bytes-length zero x = refl
-bytes-length (suc n) x = ap suc (bytes-length n x)
+pub bytes_length : (n x : ℕ) → length (bytes_of n x) ≡ n
+bytes_length zero x = refl
+bytes_length (suc n) x = ap suc (bytes_length n x)
 
 pub bytes_word : (n x : ℕ) → field_of (bytes_of n x) 0 (8 * n) ≡ x % 2 ^ (8 * n)
 unfolding field_of
@@ -82,23 +82,23 @@ bytes_word (suc n) x =
     let l = b ∷ bytes_of n x in
     let e : 8 * suc n ≡ 8 + 8 * n = omega arith in
     ap (field_of l 0) e ∙ field-split l 0 8 (8 * n)
-    ∙ ap₂ (λ (y z : ℕ). y * 2 ^ (8 * n) + z) (field-8 l 0 (mod-lt (x / 2 ^ (8 * n)) (zero-lt-suc 255))) (sym (field-drop l 1 0 (8 * n)) ∙ bytes_word n x)
+    ∙ ap₂ (λ (y z : ℕ). y * 2 ^ (8 * n) + z) (field_8 l 0 (mod-lt (x / 2 ^ (8 * n)) (zero-lt-suc 255))) (sym (field-drop l 1 0 (8 * n)) ∙ bytes_word n x)
     ∙ sym (mod-pow-add x 8 (8 * n)) ∙ ap (λ (y : ℕ). x % 2 ^ y) (sym e)
 
-pub bytes-fields : (n : ℕ) (fs : List (ℕ × ℕ)) → Narrow fs → total (widths fs) ≡ 8 * n → fields_of (bytes_of n (pack fs)) 0 (widths fs) ≡ values fs
-bytes-fields n fs h e =
+pub bytes_fields : (n : ℕ) (fs : List (ℕ × ℕ)) → Narrow fs → total (widths fs) ≡ 8 * n → fields_of (bytes_of n (pack fs)) 0 (widths fs) ≡ values fs
+bytes_fields n fs h e =
     fields-unpack (bytes_of n (pack fs)) 0 (widths fs)
     ∙ ap (unpack (widths fs))
-    (ap (field_of (bytes_of n (pack fs)) 0) e ∙ bytes_word n (pack fs) ∙ ap (λ (y : ℕ). pack fs % 2 ^ y) (sym e) ∙ mod-eq_of_lt (pack-lt fs h))
+    (ap (field_of (bytes_of n (pack fs)) 0) e ∙ bytes_word n (pack fs) ∙ ap (λ (y : ℕ). pack fs % 2 ^ y) (sym e) ∙ mod-eq_of_lt (pack_lt fs h))
     ∙ unpack-pack fs h
 
 -- ---- written into bytes
 
 -- the first field, and then the others: that is the packed number
-pub written-pack : {s t u : List ℕ} {at w v : ℕ} (fs : List (ℕ × ℕ)) → Narrow fs → Written s at w v t → Written t (at + w) (total (widths fs)) (pack fs) u
+pub written_pack : {s t u : List ℕ} {at w v : ℕ} (fs : List (ℕ × ℕ)) → Narrow fs → Written s at w v t → Written t (at + w) (total (widths fs)) (pack fs) u
     → Written s at (total (widths ((w, v) ∷ fs))) (pack ((w, v) ∷ fs)) u
-written-pack fs h p q = written-pair p q (pack-lt fs h)
+written_pack fs h p q = written_pair p q (pack_lt fs h)
 
 -- reading what was written gives the values again
-pub written-fields : {s t : List ℕ} {at : ℕ} (fs : List (ℕ × ℕ)) → Narrow fs → Written s at (total (widths fs)) (pack fs) t → fields_of t at (widths fs) ≡ values fs
-written-fields {s} {t} {at} fs h p = fields-unpack t at (widths fs) ∙ ap (unpack (widths fs)) (written-fits p (pack-lt fs h)) ∙ unpack-pack fs h
+pub written_fields : {s t : List ℕ} {at : ℕ} (fs : List (ℕ × ℕ)) → Narrow fs → Written s at (total (widths fs)) (pack fs) t → fields_of t at (widths fs) ≡ values fs
+written_fields {s} {t} {at} fs h p = fields-unpack t at (widths fs) ∙ ap (unpack (widths fs)) (written_fits p (pack_lt fs h)) ∙ unpack-pack fs h

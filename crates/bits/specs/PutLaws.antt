@@ -15,24 +15,24 @@ use Rattle.std.proofs.Math.Pow.{high, low}
 use Rattle.std.proofs.lemmas.Nat.{mod-pow-add}
 use Rattle.std.proofs.Math.ListN.{length-set}
 use Rattle.bits.specs.Field.{bit_of, field_of}
-use Rattle.bits.specs.FieldLaws.{field-split, field-same, field-bit, field-in-byte, field-8, bit-in-byte, bit-set}
-use Rattle.bits.specs.Digits.{bit_high, bit-low, splice, splice-above, splice-in, splice-below}
+use Rattle.bits.specs.FieldLaws.{field-split, field_same, field-bit, field_in_byte, field_8, bit_in_byte, bit-set}
+use Rattle.bits.specs.Digits.{bit_high, bit-low, splice, splice_above, splice_in, splice-below}
 use Rattle.bits.specs.Put.{Written}
 
 pub written_none : (s : List ℕ) (at x : ℕ) → Written s at 0 x s
 unfolding field_of
 written_none s at x = record { long = refl; field = sym (mod-one x); other = λ i h. refl }
 
-pub written-fits : {s t : List ℕ} {at w x : ℕ} → Written s at w x t → x < 2 ^ w → field_of t at w ≡ x
-written-fits p h = p.field ∙ mod-eq_of_lt h
+pub written_fits : {s t : List ℕ} {at w x : ℕ} → Written s at w x t → x < 2 ^ w → field_of t at w ≡ x
+written_fits p h = p.field ∙ mod-eq_of_lt h
 
 pub written_apart : {s t : List ℕ} {at w x : ℕ} → Written s at w x t → (a v : ℕ) → (a + v ≤ at) ⊎ (at + w ≤ a) → field_of t a v ≡ field_of s a v
-written_apart {s} {t} p a v (inl h) = field-same t s a a v (λ k l. p.other (a + k) (inl (omega arith)))
-written_apart {s} {t} p a v (inr h) = field-same t s a a v (λ k l. p.other (a + k) (inr (omega arith)))
+written_apart {s} {t} p a v (inl h) = field_same t s a a v (λ k l. p.other (a + k) (inl (omega arith)))
+written_apart {s} {t} p a v (inr h) = field_same t s a a v (λ k l. p.other (a + k) (inr (omega arith)))
 
 -- the last w bits of x, and then the v bits of x before them
-pub written-more : {s t u : List ℕ} {at v w x : ℕ} → Written s (at + v) w x t → Written t at v (x / 2 ^ w) u → Written s at (v + w) x u
-written-more {s} {t} {u} {at} {v} {w} {x} p q =
+pub written_more : {s t u : List ℕ} {at v w x : ℕ} → Written s (at + v) w x t → Written t at v (x / 2 ^ w) u → Written s at (v + w) x u
+written_more {s} {t} {u} {at} {v} {w} {x} p q =
     record {
       long = q.long ∙ p.long;
       field = field-split u at v w ∙ ap₂ (λ (y z : ℕ). y * 2 ^ w + z) q.field (written_apart q (at + v) w (inr (omega arith)) ∙ p.field) ∙ sym (mod-pow-add x v w);
@@ -43,8 +43,8 @@ written-more {s} {t} {u} {at} {v} {w} {x} p q =
     }
 
 -- two fields that stand side by side, the first one written first
-pub written-pair : {s t u : List ℕ} {at v w x y : ℕ} → Written s at v x t → Written t (at + v) w y u → y < 2 ^ w → Written s at (v + w) (x * 2 ^ w + y) u
-written-pair {s} {t} {u} {at} {v} {w} {x} {y} p q h =
+pub written_pair : {s t u : List ℕ} {at v w x y : ℕ} → Written s at v x t → Written t (at + v) w y u → y < 2 ^ w → Written s at (v + w) (x * 2 ^ w + y) u
+written_pair {s} {t} {u} {at} {v} {w} {x} {y} p q h =
     let z = x * 2 ^ w + y in
     let e : field_of u at v ≡ z / 2 ^ w % 2 ^ v = written_apart q at v (inl (omega arith)) ∙ p.field ∙ ap (λ (n : ℕ). n % 2 ^ v) (sym (high x w h)) in
     let d : field_of u (at + v) w ≡ z % 2 ^ w = q.field ∙ mod-eq_of_lt h ∙ sym (low x w h) in
@@ -69,20 +69,20 @@ module _ (s : List ℕ) (b k n j v : ℕ) (fit : k + n + j ≡ 8) (in_List : b <
   bit_kept : (i : ℕ) → i < 8 → (i < k) ⊎ (k + n ≤ i) → bit_of (set s b new) (8 * b + i) ≡ bit_of s (8 * b + i)
   unfolding new
   bit_kept i l h =
-      bit-in-byte (set s b new) b i (7 - i) (omega arith)
+      bit_in_byte (set s b new) b i (7 - i) (omega arith)
       ∙ ap (λ (y : ℕ). y / 2 ^ (7 - i) % 2) new-at
       ∙ ⊎_elim
-      (λ a. bit_high new (get_or s b 0) (n + j) (7 - i) (splice-above (get_or s b 0) n j v) (omega arith))
+      (λ a. bit_high new (get_or s b 0) (n + j) (7 - i) (splice_above (get_or s b 0) n j v) (omega arith))
       (λ a. bit-low new (get_or s b 0) j (7 - i) (splice-below (get_or s b 0) n j v) (omega arith))
       h
-      ∙ sym (bit-in-byte s b i (7 - i) (omega arith))
+      ∙ sym (bit_in_byte s b i (7 - i) (omega arith))
 
   pub written_byte : Written s (8 * b + k) n v (set s b (splice (get_or s b 0) n j v))
   unfolding new
   written_byte =
       record {
         long = length-set s b new;
-        field = field-in-byte (set s b new) b k n j fit ∙ ap (λ (y : ℕ). y / 2 ^ j % 2 ^ n) new-at ∙ splice-in (get_or s b 0) n j v;
+        field = field_in_byte (set s b new) b k n j fit ∙ ap (λ (y : ℕ). y / 2 ^ j % 2 ^ n) new-at ∙ splice_in (get_or s b 0) n j v;
         other = λ i h. elim (ℕ_discrete (i / 8) b) [
           | no a ↦ bit-set s b new i a
           | yes a ↦ let e : 8 * b + i % 8 ≡ i = omega arith in
@@ -92,9 +92,9 @@ module _ (s : List ℕ) (b k n j v : ℕ) (fit : k + n + j ≡ 8) (in_List : b <
       }
 
 -- one turn of the writer, from the last bits to the first: w bits are left, and the n before bit at + w go into byte b
-pub written-turn : {s t : List ℕ} {x : ℕ} (at width w n b j v : ℕ) → w ≤ width → n ≤ w → n + j ≤ 8 → 8 * b + 8 ≡ at + w + j → b < length t
+pub written_turn : {s t : List ℕ} {x : ℕ} (at width w n b j v : ℕ) → w ≤ width → n ≤ w → n + j ≤ 8 → 8 * b + 8 ≡ at + w + j → b < length t
     → v ≡ x / 2 ^ (width - w) → Written s (at + w) (width - w) x t → Written s (at + (w - n)) (width - (w - n)) x (set t b (splice (get_or t b 0) n j v))
-written-turn {s} {t} {x} at width w n b j v h l m e i q p =
+written_turn {s} {t} {x} at width w n b j v h l m e i q p =
     let u = set t b (splice (get_or t b 0) n j v) in
     let a : at + (w - n) + n ≡ at + w = omega arith in
     let c : n + (width - w) ≡ width - (w - n) = omega arith in
@@ -103,7 +103,7 @@ written-turn {s} {t} {x} at width w n b j v h l m e i q p =
     subst (λ (y : ℕ). Written t (at + (w - n)) n y u) q
     (subst (λ (y : ℕ). Written t y n v u) d (written_byte t b (8 - n - j) n j v (omega arith) i)) in
     subst (λ (y : ℕ). Written s (at + (w - n)) y x u) c
-    (written-more (subst (λ (y : ℕ). Written s y (width - w) x t) (sym a) p) one)
+    (written_more (subst (λ (y : ℕ). Written s y (width - w) x t) (sym a) p) one)
 
 -- ---- no second list is left
 
@@ -113,17 +113,17 @@ Bytes s = (i : ℕ) → get_or s i 0 < 256
 -- bytes with equal bits are equal
 pub bytes_same : (s t : List ℕ) → Bytes s → Bytes t → length s ≡ length t → ((i : ℕ) → bit_of s i ≡ bit_of t i) → s ≡ t
 bytes_same s t bs bt l h =
-    ext_get_or 0 s t l (λ i _. sym (field-8 s i (bs i)) ∙ field-same s t (8 * i) (8 * i) 8 (λ k _. h (8 * i + k)) ∙ field-8 t i (bt i))
+    ext_get_or 0 s t l (λ i _. sym (field_8 s i (bs i)) ∙ field_same s t (8 * i) (8 * i) 8 (λ k _. h (8 * i + k)) ∙ field_8 t i (bt i))
 
 -- bytes that the field does not touch are as before
-pub written-part : {s t : List ℕ} {at w x : ℕ} → Bytes s → Bytes t → Written s at w x t → (a k : ℕ) → (8 * (a + k) ≤ at) ⊎ (at + w ≤ 8 * a) → take k (drop a t) ≡ take k (drop a s)
-written-part {s} {t} {at} {w} {x} bs bt p a k h =
+pub written_part : {s t : List ℕ} {at w x : ℕ} → Bytes s → Bytes t → Written s at w x t → (a k : ℕ) → (8 * (a + k) ≤ at) ⊎ (at + w ≤ 8 * a) → take k (drop a t) ≡ take k (drop a s)
+written_part {s} {t} {at} {w} {x} bs bt p a k h =
     let l : length (take k (drop a t)) ≡ length (take k (drop a s)) =
     length-take k (drop a t) ∙ ap (min k) (length-drop a t ∙ ap (λ (n : ℕ). n - a) p.long ∙ sym (length-drop a s)) ∙ sym (length-take k (drop a s)) in
     let byte : (i : ℕ) → i < k → get_or t (a + i) 0 ≡ get_or s (a + i) 0 =
-    λ i m. sym (field-8 t (a + i) (bt (a + i)))
+    λ i m. sym (field_8 t (a + i) (bt (a + i)))
     ∙ written_apart p (8 * (a + i)) 8 (⊎_elim (λ d. inl (omega arith)) (λ d. inr (omega arith)) h)
-    ∙ field-8 s (a + i) (bs (a + i)) in
+    ∙ field_8 s (a + i) (bs (a + i)) in
     ext_get_or 0 (take k (drop a t)) (take k (drop a s)) l (λ i m.
     let n : i < k = omega (arith, length-take k (drop a t)) in
     rw (get_or-take k (drop a t) i 0 n, get_or-take k (drop a s) i 0 n, get_or-drop a t i 0, get_or-drop a s i 0) (byte i n))

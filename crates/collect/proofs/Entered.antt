@@ -16,17 +16,17 @@ use Rattle.store.specs.declared.ids.Marks.{Marks}
 use Rattle.store.specs.Sections.{Mem}
 use Rattle.store.specs.Meanings.{Range}
 use Rattle.store.specs.Rel.{World, Rel, R, caps}
-use Rattle.store.specs.Blocks.{localBlock}
+use Rattle.store.specs.Blocks.{local_block}
 use Rattle.nodefile.specs.Valid.{Valid}
-use Rattle.target.specs.Target.{BlockIs, marksOf}
-use Rattle.target.specs.Blocks.{over-more}
+use Rattle.target.specs.Target.{BlockIs, marks_of}
+use Rattle.target.specs.Blocks.{over_more}
 use Rattle.target.specs.Whole.{block-range, block-is, Block-none, opens, closes}
 use Rattle.collect.specs.Cycle.{Ghost, Done}
 
 -- where a list is full it stays so
 pub full_block : {W : World} {env : List Binding} {ss : List ℕ} {st : St} {s : State} {m : Mem} (k : ℕ) (ts : List Target) → R W env ss st s m → s.full ≡ true → R W env ss (block k ts st).1 s m
 full_block {st = st} k ts r e = record {
-  over = λ f. rw (block-is k ts st) (over-more (localBlock k st) [] ts (rw (Block-none k st) (r.over f)));
+  over = λ f. rw (block-is k ts st) (over_more (local_block k st) [] ts (rw (Block-none k st) (r.over f)));
   rel = λ f. absurd (true≢false (sym e ∙ f));
 }
 
@@ -34,9 +34,9 @@ full_block {st = st} k ts r e = record {
 abbrev pub block_of : ℕ → ℕ → Block
 block_of k first = record { scope = record { 0 = k }; first = first; local = true }
 
-pub block-told : {W : World} {env : List Binding} {ss : List ℕ} {st : St} {s : State} {m : Mem} (n k : ℕ) → n ≡ k → Rel W env ss (caps st) st s m → BlockIs (localBlock k st) (block_of n s.bindings)
-unfolding localBlock
-block-told n k e r = record { scope-is = e; first-is = r.image.bindings-are; local-is = refl }
+pub block-told : {W : World} {env : List Binding} {ss : List ℕ} {st : St} {s : State} {m : Mem} (n k : ℕ) → n ≡ k → Rel W env ss (caps st) st s m → BlockIs (local_block k st) (block_of n s.bindings)
+unfolding local_block
+block-told n k e r = record { scope_is = e; first-is = r.image.bindings_are; local_is = refl }
 
 module _ {W : World} {env : List Binding} {ss : List ℕ} {st : St} {s : State} {m : Mem} {part : List ℕ} {at : ℕ}
     (n k : ℕ) (e : n ≡ k) (small : k < 256) (free : s.full ≡ false) (r : R W env ss st s m) (f : Forest) (reads : Reads part at f) (valid : Valid f) where
@@ -46,7 +46,7 @@ module _ {W : World} {env : List Binding} {ss : List ℕ} {st : St} {s : State} 
     W = W;
     env = env;
     ss = ss;
-    E = localBlock k st;
+    E = local_block k st;
     ts = [];
     f = f;
     reads = reads;
@@ -56,10 +56,10 @@ module _ {W : World} {env : List Binding} {ss : List ℕ} {st : St} {s : State} 
   }
 
   -- and ends
-  pub block-done : {marks : Marks} {r' : State} {m' : Mem} (mk : bind.Marks) → marksOf marks ≡ mk → Done part at (block_of n s.bindings) marks s m r' m' → R W env ss (block k (collect W.F.names mk f) st).1 r' m'
+  pub block-done : {marks : Marks} {r' : State} {m' : Mem} (mk : bind.Marks) → marks_of marks ≡ mk → Done part at (block_of n s.bindings) marks s m r' m' → R W env ss (block k (collect W.F.names mk f) st).1 r' m'
   block-done {marks} {r'} {m'} mk q d = closes k st (collect W.F.names mk f) (rw q at (d.right block-ghost))
 
 -- its bindings are those from the first on
 pub block_new : (k : ℕ) (ts : List Target) (st : St) (lo hi : ℕ) → lo ≡ length st.made → hi ≡ length (block k ts st).1.made → Range (block k ts st).1.made (block k ts st).0 lo hi
-unfolding localBlock
-block_new k ts st lo hi el eh = rw (el, eh, block-is k ts st) (block-range (localBlock k st) ts refl)
+unfolding local_block
+block_new k ts st lo hi el eh = rw (el, eh, block-is k ts st) (block-range (local_block k st) ts refl)

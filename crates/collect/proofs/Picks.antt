@@ -18,22 +18,22 @@ each_at P (suc n) a h k l m =
       | no z ↦ subst P (omega arith) h.0
     ]
 
-pub statement-through : (k : ℕ) → k < 5 → pick k ≡ through
+pub statement_through : (k : ℕ) → k < 5 → pick k ≡ through
 unfolding pick
-statement-through k h = each_at (λ j. pick j ≡ through) 5 0 (refl, (refl, (refl, (refl, (refl, tt))))) k (omega arith) (omega arith)
+statement_through k h = each_at (λ j. pick j ≡ through) 5 0 (refl, (refl, (refl, (refl, (refl, tt))))) k (omega arith) (omega arith)
 
-pub target-through : (k : ℕ) → 8 < k → k < 11 → pick k ≡ through
+pub target_through : (k : ℕ) → 8 < k → k < 11 → pick k ≡ through
 unfolding pick
-target-through k l h = each_at (λ j. pick j ≡ through) 2 9 (refl, (refl, tt)) k (omega arith) (omega arith)
+target_through k l h = each_at (λ j. pick j ≡ through) 2 9 (refl, (refl, tt)) k (omega arith) (omega arith)
 
-pub clause-through : (k : ℕ) → 14 < k → k < 17 → pick k ≡ through
+pub clause_through : (k : ℕ) → 14 < k → k < 17 → pick k ≡ through
 unfolding pick
-clause-through k l h = each_at (λ j. pick j ≡ through) 2 15 (refl, (refl, tt)) k (omega arith) (omega arith)
+clause_through k l h = each_at (λ j. pick j ≡ through) 2 15 (refl, (refl, tt)) k (omega arith) (omega arith)
 
-pub expression-shut : (k : ℕ) → 10 < k → k < 15 → pick k ≡ shut
+pub expression_shut : (k : ℕ) → 10 < k → k < 15 → pick k ≡ shut
 unfolding pick
-expression-shut k l h = each_at (λ j. pick j ≡ shut) 4 11 (refl, (refl, (refl, (refl, tt)))) k (omega arith) (omega arith)
+expression_shut k l h = each_at (λ j. pick j ≡ shut) 4 11 (refl, (refl, (refl, (refl, tt)))) k (omega arith) (omega arith)
 
-pub type-shut : (k : ℕ) → k ≡ 18 → pick k ≡ shut
+pub type_shut : (k : ℕ) → k ≡ 18 → pick k ≡ shut
 unfolding pick
-type-shut k e = rw e refl
+type_shut k e = rw e refl

@@ -12,52 +12,52 @@ use Rattle.store.specs.declared.ids.Block.{Block}
 use Rattle.store.specs.declared.ids.Marks.{Marks}
 use Rattle.store.specs.Sections.{Mem}
 use Rattle.store.specs.Blocks.{RB}
-use Rattle.target.specs.Target.{marksOf, Meets, PreTarget, DoneTarget}
-use Rattle.nodefile.specs.Parts.{alone, One, one, kids-length, Named, named}
-use Rattle.collect.proofs.Collecting.{shut-node, name-node, def-node}
+use Rattle.target.specs.Target.{marks_of, Meets, PreTarget, DoneTarget}
+use Rattle.nodefile.specs.Parts.{alone, One, one, kids_length, Named, named}
+use Rattle.collect.proofs.Collecting.{shut_node, name_node, def_node}
 use Rattle.collect.specs.Cycle.{Ghost, Pre, Pre1, Done}
 
 module _ {part : List ℕ} {at : ℕ} {b : Block} {s : State} {m : Mem} (p : Pre1 part at b s m) where
-  pub x-long : 8 ≤ length part
-  x-long = omega (arith, p.some, p.whole)
+  pub x_long : 8 ≤ length part
+  x_long = omega (arith, p.some, p.whole)
 
   abbrev x-one : (g : Ghost part at b s m) → One part at g.f
   x-one g = one part p.some p.whole at g.f g.reads g.valid
 
   -- what it gives
-  x-right : (marks : Marks) (r : State) (m' : Mem) (g : Ghost part at b s m) (ts : List Target) → collect g.W.F.names (marksOf marks) (alone part at (x-one g).kids) ≡ ts
-      → RB g.W g.env g.ss g.E (g.ts ++ ts) r m' → RB g.W g.env g.ss g.E (g.ts ++ collect g.W.F.names (marksOf marks) g.f) r m'
-  x-right marks r m' g ts e q =
+  x_right : (marks : Marks) (r : State) (m' : Mem) (g : Ghost part at b s m) (ts : List Target) → collect g.W.F.names (marks_of marks) (alone part at (x-one g).kids) ≡ ts
+      → RB g.W g.env g.ss g.E (g.ts ++ ts) r m' → RB g.W g.env g.ss g.E (g.ts ++ collect g.W.F.names (marks_of marks) g.f) r m'
+  x_right marks r m' g ts e q =
       let o = x-one g in
       let N = g.W.F.names in
-      let z : g.ts ++ collect N (marksOf marks) g.f ≡ g.ts ++ ts = ap (λ (f : Forest). g.ts ++ collect N (marksOf marks) f) o.is ∙ ap (λ (xs : List Target). g.ts ++ xs) e in
+      let z : g.ts ++ collect N (marks_of marks) g.f ≡ g.ts ++ ts = ap (λ (f : Forest). g.ts ++ collect N (marks_of marks) f) o.is ∙ ap (λ (xs : List Target). g.ts ++ xs) e in
       rw z q
 
   -- nothing
-  pub x-shut : (marks : Marks) → (kind_of part ≤ 18 → pick (kind_of part) ≡ shut) → Done part at b marks s m s m
-  x-shut marks h = record {
-    right = λ g. x-right marks s m g [] (shut-node g.W.F.names (marksOf marks) at (kind_of part) (value_of part) (x-one g).kids (h (x-one g).ok.kind)) (rw append-nil g.rel);
+  pub x_shut : (marks : Marks) → (kind_of part ≤ 18 → pick (kind_of part) ≡ shut) → Done part at b marks s m s m
+  x_shut marks h = record {
+    right = λ g. x_right marks s m g [] (shut_node g.W.F.names (marks_of marks) at (kind_of part) (value_of part) (x-one g).kids (h (x-one g).ok.kind)) (rw append-nil g.rel);
   }
 
   -- what its children give
-  pub x-kids-length : length (take (length part - 8) (drop 8 part)) ≡ length part - 8
-  x-kids-length = kids-length part p.some p.whole
+  pub x_kids_length : length (take (length part - 8) (drop 8 part)) ≡ length part - 8
+  x_kids_length = kids_length part p.some p.whole
 
   abbrev x-kids-ghost : Ghost part at b s m → Ghost (take (length part - 8) (drop 8 part)) (at + 1) b s m
   x-kids-ghost g =
       let o = x-one g in
       record { W = g.W; env = g.env; ss = g.ss; E = g.E; ts = g.ts; f = o.kids; reads = o.under; valid = o.valid; is = g.is; rel = g.rel }
 
-  pub x-kids-pre : Pre (take (length part - 8) (drop 8 part)) (at + 1) b s m
-  x-kids-pre = record {
+  pub x_kids_pre : Pre (take (length part - 8) (drop 8 part)) (at + 1) b s m
+  x_kids_pre = record {
     long = p.pre.long;
-    within = omega (arith, p.pre.within, x-kids-length, x-long);
+    within = omega (arith, p.pre.within, x_kids_length, x_long);
     ghost = x-kids-ghost p.pre.ghost;
   }
 
-  pub x-kids : {marks inner : Marks} {r : State} {m' : Mem} → ((N : Names) (kids : Forest) → collect N (marksOf marks) (alone part at kids) ≡ collect N (marksOf inner) kids)
+  pub x_kids : {marks inner : Marks} {r : State} {m' : Mem} → ((N : Names) (kids : Forest) → collect N (marks_of marks) (alone part at kids) ≡ collect N (marks_of inner) kids)
       → Done (take (length part - 8) (drop 8 part)) (at + 1) b inner s m r m' → Done part at b marks s m r m'
-  x-kids {marks} {inner} {r} {m'} e x = record { right = λ g. x-right marks r m' g _ (e g.W.F.names (x-one g).kids) (x.right (x-kids-ghost g)) }
+  x_kids {marks} {inner} {r} {m'} e x = record { right = λ g. x_right marks r m' g _ (e g.W.F.names (x-one g).kids) (x.right (x-kids-ghost g)) }
 
   -- a Name: one target
   abbrev x-name-ghost : (name : ℕ) → name ≡ value_of part → kind_of part ≡ 8 → Ghost part at b s m → Meets name at b s m
@@ -65,12 +65,12 @@ module _ {part : List ℕ} {at : ℕ} {b : Block} {s : State} {m : Mem} (p : Pre
       let o = x-one g in
       record { W = g.W; env = g.env; ss = g.ss; E = g.E; ts = g.ts; is = g.is; rel = g.rel; node = o.ok.number; small = rw e (o.ok.name h).0 }
 
-  pub x-name-pre : (name : ℕ) → name ≡ value_of part → kind_of part ≡ 8 → PreTarget name at b s m
-  x-name-pre name e h = record { long = p.pre.long; ghost = x-name-ghost name e h p.pre.ghost }
+  pub x_name_pre : (name : ℕ) → name ≡ value_of part → kind_of part ≡ 8 → PreTarget name at b s m
+  x_name_pre name e h = record { long = p.pre.long; ghost = x-name-ghost name e h p.pre.ghost }
 
-  pub x-name : (name : ℕ) (e : name ≡ value_of part) (h : kind_of part ≡ 8) {marks : Marks} {r : State} {m' : Mem} → DoneTarget name at b marks s m r m' → Done part at b marks s m r m'
-  x-name name e h {marks} {r} {m'} x = record {
-    right = λ g. x-right marks r m' g _ (name-node g.W.F.names (marksOf marks) at (kind_of part) (value_of part) (x-one g).kids name (sym e) h) (x.right (x-name-ghost name e h g));
+  pub x_name : (name : ℕ) (e : name ≡ value_of part) (h : kind_of part ≡ 8) {marks : Marks} {r : State} {m' : Mem} → DoneTarget name at b marks s m r m' → Done part at b marks s m r m'
+  x_name name e h {marks} {r} {m'} x = record {
+    right = λ g. x_right marks r m' g _ (name_node g.W.F.names (marks_of marks) at (kind_of part) (value_of part) (x-one g).kids name (sym e) h) (x.right (x-name-ghost name e h g));
   }
 
   -- a Def: its Name, which is its first child
@@ -82,13 +82,13 @@ module _ {part : List ℕ} {at : ℕ} {b : Block} {s : State} {m : Mem} (p : Pre
       let q = x-def-name h g in
       record { W = g.W; env = g.env; ss = g.ss; E = g.E; ts = g.ts; is = g.is; rel = g.rel; node = q.number; small = rw e q.small }
 
-  pub x-def-pre : (name : ℕ) → name ≡ value_of (take (length part - 8) (drop 8 part)) → kind_of part ≡ 6 → PreTarget name (at + 1) b s m
-  x-def-pre name e h = record { long = p.pre.long; ghost = x-def-ghost name e h p.pre.ghost }
+  pub x_def_pre : (name : ℕ) → name ≡ value_of (take (length part - 8) (drop 8 part)) → kind_of part ≡ 6 → PreTarget name (at + 1) b s m
+  x_def_pre name e h = record { long = p.pre.long; ghost = x-def-ghost name e h p.pre.ghost }
 
-  pub x-def : (name : ℕ) (e : name ≡ value_of (take (length part - 8) (drop 8 part))) (h : kind_of part ≡ 6) {marks : Marks} {r : State} {m' : Mem}
+  pub x_def : (name : ℕ) (e : name ≡ value_of (take (length part - 8) (drop 8 part))) (h : kind_of part ≡ 6) {marks : Marks} {r : State} {m' : Mem}
       → DoneTarget name (at + 1) b marks s m r m' → Done part at b marks s m r m'
-  x-def name e h {marks} {r} {m'} x = record {
+  x_def name e h {marks} {r} {m'} x = record {
     right = λ g.
         let q = x-def-name h g in
-        x-right marks r m' g _ (def-node g.W.F.names (marksOf marks) at (kind_of part) (value_of part) (x-one g).kids name (at + 1) _ q.rest (sym e) h q.is) (x.right (x-def-ghost name e h g));
+        x_right marks r m' g _ (def_node g.W.F.names (marks_of marks) at (kind_of part) (value_of part) (x-one g).kids name (at + 1) _ q.rest (sym e) h q.is) (x.right (x-def-ghost name e h g));
   }

@@ -12,7 +12,7 @@ use Rattle.store.specs.Sections.{Mem, Long}
 use Rattle.store.specs.Rel.{World}
 use Rattle.store.specs.Blocks.{BlockEnv, RB}
 use Rattle.nodefile.specs.Valid.{Valid}
-use Rattle.target.specs.Target.{BlockIs, marksOf}
+use Rattle.target.specs.Target.{BlockIs, marks_of}
 
 -- the part holds a forest, and the block has the targets ts so far
 pub record Ghost (part : List ℕ) (at : ℕ) (b : Block) (s : State) (m : Mem) : Type 0 where
@@ -46,4 +46,4 @@ pub record PreKind (lo hi : ℕ) (part : List ℕ) (at : ℕ) (b : Block) (s : S
 
 -- then the block has the targets of the forest too
 pub record Done (part : List ℕ) (at : ℕ) (b : Block) (marks : Marks) (s : State) (m : Mem) (r : State) (m' : Mem) : Type 0 where
-  pub right : (g : Ghost part at b s m) → RB g.W g.env g.ss g.E (g.ts ++ collect g.W.F.names (marksOf marks) g.f) r m'
+  pub right : (g : Ghost part at b s m) → RB g.W g.env g.ss g.E (g.ts ++ collect g.W.F.names (marks_of marks) g.f) r m'

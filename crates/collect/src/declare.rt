@@ -2,9 +2,9 @@
 ghost use Rattle.std.specs.Prelude.{◌≡◌, ℕ, ◌*◌, ◌≤◌, length};
 ghost use Rattle.lexical.specs.Tree.{Forest, params};
 ghost use Rattle.nodefile.specs.Reads.{Reads};
-ghost use Rattle.store.specs.Sections.{mem, manyNodes};
+ghost use Rattle.store.specs.Sections.{mem, many_nodes};
 ghost use Rattle.collect.specs.Cycle.{Pre1, Done};
-ghost use Rattle.collect.specs.Declare.{moduleIs, plainMarks, PreFunction, FunctionDone, PreHere, HereDone, PreAll, AllDone, PreCompr, ComprDone, Params};
+ghost use Rattle.collect.specs.Declare.{module_is, plain_marks, PreFunction, FunctionDone, PreHere, HereDone, PreAll, AllDone, PreCompr, ComprDone, Params};
 
 use crate::walk;
 use answer::ScopeId;
@@ -12,7 +12,7 @@ use nodefile::kinds;
 use store::{Block, Marks, State};
 
 fn unmarked() -> Marks
-    ensures { result ≡ plainMarks }
+    ensures { result ≡ plain_marks }
 {
     Marks {
         in_loop: false,
@@ -29,8 +29,8 @@ pub fn collect_module(
     w: &mut [u32],
     t: &mut [u16],
 ) -> State
-    requires { Pre1 part.now 0 moduleIs st (mem binds.old w.old t.old) }
-    ensures { Done part.now 0 moduleIs plainMarks st (mem binds.old w.old t.old) result (mem binds.new w.new t.new) }
+    requires { Pre1 part.now 0 module_is st (mem binds.old w.old t.old) }
+    ensures { Done part.now 0 module_is plain_marks st (mem binds.old w.old t.old) result (mem binds.new w.new t.new) }
 {
     let block = Block {
         scope: ScopeId(0),
@@ -55,7 +55,7 @@ fn named_param(part: &[u8]) -> usize
 
 // How many of the nodes of a part are Params with a Name.
 fn param_count(part: &[u8]) -> usize
-    requires { (length part.now ≤ 8 * manyNodes) × ((at : ℕ) × (f : Forest) × Reads part.now at f) }
+    requires { (length part.now ≤ 8 * many_nodes) × ((at : ℕ) × (f : Forest) × Reads part.now at f) }
     ensures { (8 * result ≤ length part.now) × ((at : ℕ) (f : Forest) → Reads part.now at f → result ≡ params f) }
 {
     let mut n = 0;

@@ -1,15 +1,15 @@
 // The targets of some nodes, in order: statements, targets, clauses and parameters call one another. Nothing is bound by an expression or a type.
 ghost use Rattle.std.specs.Prelude.{◌≡◌};
 ghost use Rattle.store.specs.Sections.{mem};
-ghost use Rattle.target.specs.Target.{marksOf};
+ghost use Rattle.target.specs.Target.{marks_of};
 ghost use Rattle.collect.specs.Cycle.{Pre, Pre1, PreKind, Done};
-ghost use Rattle.lexical.specs.Code.Collect.{inLoop, inLoad, asParam};
+ghost use Rattle.lexical.specs.Code.Collect.{in_loop, in_load, as_param};
 
 use nodefile::kinds;
 use store::{Block, Marks, State};
 
 pub fn looping(marks: Marks) -> Marks
-    ensures { marksOf result ≡ inLoop (marksOf marks) }
+    ensures { marks_of result ≡ in_loop (marks_of marks) }
 {
     Marks {
         in_loop: true,
@@ -19,7 +19,7 @@ pub fn looping(marks: Marks) -> Marks
 }
 
 fn loading(marks: Marks) -> Marks
-    ensures { marksOf result ≡ inLoad (marksOf marks) }
+    ensures { marks_of result ≡ in_load (marks_of marks) }
 {
     Marks {
         in_loop: marks.in_loop,
@@ -29,7 +29,7 @@ fn loading(marks: Marks) -> Marks
 }
 
 fn as_param(marks: Marks) -> Marks
-    ensures { marksOf result ≡ asParam (marksOf marks) }
+    ensures { marks_of result ≡ as_param (marks_of marks) }
 {
     Marks {
         in_loop: marks.in_loop,

@@ -3,25 +3,25 @@ use Rattle.std.specs.Prelude.{ℕ, List, map, reverse}
 use Rattle.std.proofs.Math.Option.{Option, none, some}
 use Rattle.lexical.specs.State.{Copy}
 use Rattle.lexical.specs.Follow.{follow}
-use Rattle.answer.specs.Records.{copyScope, copyParent, copyChild}
+use Rattle.answer.specs.Records.{copy_scope, copy_parent, copy_child}
 use Rattle.follow.specs.declared.Place.{Place}
 use Rattle.follow.specs.declared.From.{From}
 use Rattle.follow.specs.declared.From.TheVariants.{Parent, Own}
 
 -- the copy that a record tells of; which binding it copies is not in the record
 abbrev pub copy_of : ℕ → Copy
-copy_of x = record { scope = copyScope x; parent = copyParent x; child = copyChild x; id = 0 }
+copy_of x = record { scope = copy_scope x; parent = copy_parent x; child = copy_child x; id = 0 }
 
-abbrev pub copiesOf : List ℕ → List Copy
-copiesOf xs = map copy_of xs
+abbrev pub copies_of : List ℕ → List Copy
+copies_of xs = map copy_of xs
 
-abbrev pub fromOf : Option ℕ → From
-fromOf none = Own
-fromOf (some k) = Parent (record { 0 = k })
+abbrev pub from_of : Option ℕ → From
+from_of none = Own
+from_of (some k) = Parent (record { 0 = k })
 
 abbrev pub place_of : ℕ × ℕ → Place
 place_of p = record { scope = record { 0 = p.0 }; slot = record { 0 = p.1 } }
 
 -- where a slot of the last of these scopes, given outermost first, has its value from
 abbrev pub followed : List ℕ → List ℕ → ℕ → Place
-followed copies around slot = place_of (follow (copiesOf copies) (reverse around) slot)
+followed copies around slot = place_of (follow (copies_of copies) (reverse around) slot)

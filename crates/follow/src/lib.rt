@@ -1,7 +1,7 @@
 // Following copies outward: from a slot of a scope to the scope and the slot that its value comes from.
 ghost use Rattle.std.specs.Prelude.{◌≡◌, ◌+◌, ◌<◌};
-ghost use Rattle.lexical.specs.Follow.{copyTo, fromIn};
-ghost use Rattle.follow.specs.Place.{copy_of, copiesOf, fromOf, followed};
+ghost use Rattle.lexical.specs.Follow.{copy_to, from_in};
+ghost use Rattle.follow.specs.Place.{copy_of, copies_of, from_of, followed};
 
 use answer::{LocalSlotId, ScopeId};
 
@@ -27,7 +27,7 @@ fn wide(x: u32) -> usize
 
 // Whether a copy's record is of a slot of a scope.
 fn fills(r: u32, scope: usize, slot: usize) -> bool
-    ensures { result ≡ copyTo scope slot (copy_of r) }
+    ensures { result ≡ copy_to scope slot (copy_of r) }
 {
     if answer::copy::scope(r) as usize == scope {
         return answer::copy::child(r) as usize == slot;
@@ -37,7 +37,7 @@ fn fills(r: u32, scope: usize, slot: usize) -> bool
 
 // The parent slot of the first copy that fills a slot of a scope.
 pub fn copied_from(copies: &[u32], scope: usize, slot: usize) -> From
-    ensures { result ≡ fromOf (fromIn scope slot (copiesOf copies.now)) }
+    ensures { result ≡ from_of (from_in scope slot (copies_of copies.now)) }
 {
     let mut c = 0;
     while c < copies.len() {

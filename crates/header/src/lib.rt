@@ -1,7 +1,7 @@
 // Numbers 2, 3 and 4: the header, and the length of the file.
 ghost use Rattle.base.specs.Says.{Says};
 ghost use Rattle.base.specs.First.{First};
-ghost use Rattle.header.specs.Header.{BadHeader, BadCounts, BadLength, headerRows};
+ghost use Rattle.header.specs.Header.{BadHeader, BadCounts, BadLength, header_rows};
 
 // How much of each a file may have (document 01, number 3).
 const MOST_NODES: u64 = 2048;
@@ -74,7 +74,7 @@ fn bad_length(file: &[u8]) -> bool
 
 // Numbers 2 to 4.
 pub fn judge_header(file: &[u8]) -> u64
-    ensures { First (headerRows file.now) result }
+    ensures { First (header_rows file.now) result }
 {
     if bad_header(file) {
         return 2;

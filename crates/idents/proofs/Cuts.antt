@@ -16,11 +16,11 @@ use Rattle.store.specs.Sections.{Mem, Long}
 use Rattle.store.specs.Rel.{R}
 use Rattle.store.specs.Laws.Lengths.{Kept, long_kept}
 use Rattle.nodefile.specs.Valid.{Some}
-use Rattle.nodefile.specs.Parts.{alone, Split, split, some-long}
+use Rattle.nodefile.specs.Parts.{alone, Split, split, some_long}
 use Rattle.idents.specs.Cycle.{Ghost, Pre, Pre1, PreKind, Done, LastAt}
-use Rattle.idents.proofs.Fine.{Fine, fine-apart}
-use Rattle.idents.proofs.Resolving.{clause-node}
-use Rattle.idents.proofs.Steps.{passed_on, whole-node, x-long, x-one, x-right, x-kids-length, x-kids-fine}
+use Rattle.idents.proofs.Fine.{Fine, fine_apart}
+use Rattle.idents.proofs.Resolving.{clause_node}
+use Rattle.idents.proofs.Steps.{passed_on, whole_node, x_long, x-one, x_right, x_kids_length, x_kids_fine}
 
 abbrev pub front : List ℕ → ℕ → List ℕ
 front t b = take (b - 0) (drop 0 t)
@@ -45,12 +45,12 @@ front-is : (t : List ℕ) (b : ℕ) → front t b ≡ take b t
 front-is t b = let e : b - 0 ≡ b = omega arith in rw e refl
 
 -- before the last node
-pub cut-last : {t : List ℕ} {at b : ℕ} {f : Forest} (l : LastAt t at f b) → Cut t at b l.front (node l.a l.k l.v l.kids nil)
-cut-last {t} {at} {b} {f} l = record {
+pub cut_last : {t : List ℕ} {at b : ℕ} {f : Forest} (l : LastAt t at f b) → Cut t at b l.front (node l.a l.k l.v l.kids nil)
+cut_last {t} {at} {b} {f} l = record {
   inside = omega (arith, l.inside);
   eights = l.eights;
   first = rw (front-is t b) l.front_reads;
-  second = rw (part-from t b) l.last-reads;
+  second = rw (part-from t b) l.last_reads;
 }
 
 -- after the first node
@@ -65,17 +65,17 @@ cut-first {t} {at} {b} {f} p e =
     }
 
 -- a part that holds one node, with what is known around it
-pub alone-pre : {t : List ℕ} {at : ℕ} {s : State} {m : Mem} (g : Ghost t at s m) (a k v : ℕ) (kids : Forest) → g.f ≡ node a k v kids nil → Long m → 8 * at + length t ≤ 16384 → Pre1 t at s m
-alone-pre {t} {at} g a k v kids e l w =
-    let q = whole-node t at a k v kids (subst (Reads t at) e g.reads) in
+pub alone_pre : {t : List ℕ} {at : ℕ} {s : State} {m : Mem} (g : Ghost t at s m) (a k v : ℕ) (kids : Forest) → g.f ≡ node a k v kids nil → Long m → 8 * at + length t ≤ 16384 → Pre1 t at s m
+alone_pre {t} {at} g a k v kids e l w =
+    let q = whole_node t at a k v kids (subst (Reads t at) e g.reads) in
     record { some = q.0; whole = q.1; pre = record { long = l; within = w; ghost = g } }
 
 -- a clause that is no IfClause
-pub for-clause : {part : List ℕ} {at : ℕ} {s : State} {m : Mem} {k : ℕ} → PreKind 15 16 part at s m → k ≡ kind_of part → (k ≡ 16 → ⊥) → kind_of part ≡ 15
-for-clause p e h = omega (arith, p.low, p.high)
+pub for_clause : {part : List ℕ} {at : ℕ} {s : State} {m : Mem} {k : ℕ} → PreKind 15 16 part at s m → k ≡ kind_of part → (k ≡ 16 → ⊥) → kind_of part ≡ 15
+for_clause p e h = omega (arith, p.low, p.high)
 
-pub clause-some : {part : List ℕ} {at : ℕ} {s : State} {m : Mem} (p : Pre1 part at s m) → kind_of part ≡ 15 → (g : Ghost part at s m) → Some (x-one p g).kids
-clause-some p e g = (x-one p g).ok.clause e
+pub clause_some : {part : List ℕ} {at : ℕ} {s : State} {m : Mem} (p : Pre1 part at s m) → kind_of part ≡ 15 → (g : Ghost part at s m) → Some (x-one p g).kids
+clause_some p e g = (x-one p g).ok.clause e
 
 -- ---- the children of a clause or of a comprehension: the first, and the others
 
@@ -83,54 +83,54 @@ module _ {part : List ℕ} {at : ℕ} {s : State} {m : Mem} (p : Pre1 part at s 
   abbrev pub kids-of : List ℕ
   kids-of = take (length part - 8) (drop 8 part)
 
-  pub f-split : (g : Ghost part at s m) → Split kids-of (at + 1) (x-one p g).kids
-  f-split g = let o = x-one p g in split kids-of (at + 1) o.kids (omega (arith, some-long kids-of (at + 1) o.kids o.under (some g))) o.under
+  pub f_split : (g : Ghost part at s m) → Split kids-of (at + 1) (x-one p g).kids
+  f_split g = let o = x-one p g in split kids-of (at + 1) o.kids (omega (arith, some_long kids-of (at + 1) o.kids o.under (some g))) o.under
 
-  pub f-fine : (g : Ghost part at s m) → Fine g.ss (alone kids-of (at + 1) (f-split g).kids) × Fine g.ss (f-split g).rest
-  f-fine g = let q = f-split g in fine-apart (at + 1) (kind_of kids-of) (value_of kids-of) q.kids q.rest (subst (Fine g.ss) q.is (x-kids-fine p g))
+  pub f_fine : (g : Ghost part at s m) → Fine g.ss (alone kids-of (at + 1) (f_split g).kids) × Fine g.ss (f_split g).rest
+  f_fine g = let q = f_split g in fine_apart (at + 1) (kind_of kids-of) (value_of kids-of) q.kids q.rest (subst (Fine g.ss) q.is (x_kids_fine p g))
 
   module _ (b : ℕ) (hb : b ≡ 8 * size_of kids-of) where
-    pub f-cut : (g : Ghost part at s m) → Cut kids-of (at + 1) b (alone kids-of (at + 1) (f-split g).kids) (f-split g).rest
-    f-cut g = cut-first (f-split g) hb
+    pub f_cut : (g : Ghost part at s m) → Cut kids-of (at + 1) b (alone kids-of (at + 1) (f_split g).kids) (f_split g).rest
+    f_cut g = cut-first (f_split g) hb
 
     -- byte b lies in the children, past the first
-    pub f-inside : (8 ≤ b) × (b ≤ length part - 8)
-    f-inside = let g = p.pre.ghost in omega (arith, (f-cut g).inside, (f-split g).some, x-kids-length p)
+    pub f_inside : (8 ≤ b) × (b ≤ length part - 8)
+    f_inside = let g = p.pre.ghost in omega (arith, (f_cut g).inside, (f_split g).some, x_kids_length p)
 
-    pub f-front-length : length (front kids-of b) ≡ b
-    f-front-length = front_length kids-of b (f-cut p.pre.ghost).inside
+    pub f_front-length : length (front kids-of b) ≡ b
+    f_front-length = front_length kids-of b (f_cut p.pre.ghost).inside
 
-    pub f-back-length : length (back kids-of b) ≡ length part - 8 - b
-    f-back-length = back-length kids-of b (f-cut p.pre.ghost).inside ∙ omega (arith, x-kids-length p)
+    pub f_back-length : length (back kids-of b) ≡ length part - 8 - b
+    f_back-length = back-length kids-of b (f_cut p.pre.ghost).inside ∙ omega (arith, x_kids_length p)
 
     -- the first child, from any state
     abbrev pub f-first-ghost : {s' : State} {m' : Mem} (g : Ghost part at s m) (st : St) → R g.W g.env g.ss st s' m' → Ghost (front kids-of b) (at + 1) s' m'
-    f-first-ghost g st r = passed_on g (alone kids-of (at + 1) (f-split g).kids) st (f-cut g).first (f-fine g).0 r
+    f-first-ghost g st r = passed_on g (alone kids-of (at + 1) (f_split g).kids) st (f_cut g).first (f_fine g).0 r
 
-    pub f-first-pre : {s' : State} {m' : Mem} (st : St) → R p.pre.ghost.W p.pre.ghost.env p.pre.ghost.ss st s' m' → Long m' → Pre1 (front kids-of b) (at + 1) s' m'
-    f-first-pre st r l =
+    pub f_first_pre : {s' : State} {m' : Mem} (st : St) → R p.pre.ghost.W p.pre.ghost.env p.pre.ghost.ss st s' m' → Long m' → Pre1 (front kids-of b) (at + 1) s' m'
+    f_first_pre st r l =
         let g = p.pre.ghost in
-        alone-pre (f-first-ghost g st r) _ _ _ (f-split g).kids refl l (omega (arith, p.pre.within, x-long p, f-inside, f-front-length))
+        alone_pre (f-first-ghost g st r) _ _ _ (f_split g).kids refl l (omega (arith, p.pre.within, x_long p, f_inside, f_front-length))
 
     -- the numbers of the others
-    pub f-rest-within : 8 * (at + 1 + b / 8) + length (back kids-of b) ≤ 16384
-    f-rest-within = omega (arith, p.pre.within, x-long p, f-inside, f-back-length, (f-cut p.pre.ghost).eights)
+    pub f_rest_within : 8 * (at + 1 + b / 8) + length (back kids-of b) ≤ 16384
+    f_rest_within = omega (arith, p.pre.within, x_long p, f_inside, f_back-length, (f_cut p.pre.ghost).eights)
 
     -- ---- a ForClause: the others, then the first
 
     abbrev c-rest-ghost : (g : Ghost part at s m) → Ghost (back kids-of b) (at + 1 + b / 8) s m
-    c-rest-ghost g = passed_on g (f-split g).rest g.st (f-cut g).second (f-fine g).1 g.rel
+    c-rest-ghost g = passed_on g (f_split g).rest g.st (f_cut g).second (f_fine g).1 g.rel
 
-    pub c-rest-pre : Pre (back kids-of b) (at + 1 + b / 8) s m
-    c-rest-pre = record { long = p.pre.long; within = f-rest-within; ghost = c-rest-ghost p.pre.ghost }
+    pub c_rest_pre : Pre (back kids-of b) (at + 1 + b / 8) s m
+    c_rest_pre = record { long = p.pre.long; within = f_rest_within; ghost = c-rest-ghost p.pre.ghost }
 
     module _ {ty : Bool} {s₁ : State} {m₁ : Mem} (x : Done (back kids-of b) (at + 1 + b / 8) ty s m s₁ m₁) where
-      pub c-first-pre : Kept m m₁ → Pre1 (front kids-of b) (at + 1) s₁ m₁
-      c-first-pre k = f-first-pre _ (x.right (c-rest-ghost p.pre.ghost)) (long_kept p.pre.long k)
+      pub c_first_pre : Kept m m₁ → Pre1 (front kids-of b) (at + 1) s₁ m₁
+      c_first_pre k = f_first_pre _ (x.right (c-rest-ghost p.pre.ghost)) (long_kept p.pre.long k)
 
-      pub c-done : {r : State} {m' : Mem} → kind_of part ≡ 15 → Done (front kids-of b) (at + 1) ty s₁ m₁ r m' → Done part at ty s m r m'
-      c-done e y = record {
+      pub c_done : {r : State} {m' : Mem} → kind_of part ≡ 15 → Done (front kids-of b) (at + 1) ty s₁ m₁ r m' → Done part at ty s m r m'
+      c_done e y = record {
         right = λ g.
-            let q = f-split g in
-            x-right p g ty _ (clause-node _ _ _ at _ (value_of part) (x-one p g).kids _ _ _ q.kids q.rest e q.is _ g.st) (y.right (f-first-ghost g _ (x.right (c-rest-ghost g))));
+            let q = f_split g in
+            x_right p g ty _ (clause_node _ _ _ at _ (value_of part) (x-one p g).kids _ _ _ q.kids q.rest e q.is _ g.st) (y.right (f-first-ghost g _ (x.right (c-rest-ghost g))));
       }

@@ -17,39 +17,39 @@ use Rattle.store.specs.Laws.Lengths.{Kept, long_kept}
 use Rattle.nodefile.specs.Valid.{Some, NameFirst}
 use Rattle.lookup.specs.Enter.{OwnedIn, Entering, Entered, Leaving, Left}
 use Rattle.idents.specs.Cycle.{Ghost, Pre, Pre1, PreDef, Done, DoneAny, Parted, LastAt}
-use Rattle.idents.proofs.Fine.{Fine, fine-front, fine_back, fine-room, fine-new, fine-inside}
-use Rattle.idents.proofs.Resolving.{function-node}
-use Rattle.idents.proofs.Steps.{passed_on, x-long, x-one, x-fine, x-right, x-kids-length, x-kids-fine}
-use Rattle.idents.proofs.Cuts.{front, back, Cut, cut-last, front_length, back-length, alone-pre}
+use Rattle.idents.proofs.Fine.{Fine, fine_front, fine_back, fine_room, fine_new, fine_inside}
+use Rattle.idents.proofs.Resolving.{function_node}
+use Rattle.idents.proofs.Steps.{passed_on, x_long, x-one, x_fine, x_right, x_kids_length, x_kids_fine}
+use Rattle.idents.proofs.Cuts.{front, back, Cut, cut_last, front_length, back-length, alone_pre}
 
 -- owners of two lists, one in front of the other
-pub owned-append : (bs env : List Binding) (ss : List ℕ) → OwnedIn bs ss → OwnedIn env ss → (j : ℕ) (b : Binding) → get_elem? (bs ++ env) j ≡ some b → In b.owner ss
-owned-append [] env ss h o j x e = o j x e
-owned-append (b ∷ bs) env ss h o zero x e = h 0 x e
-owned-append (b ∷ bs) env ss h o (suc j) x e = owned-append bs env ss (λ i y q. h (suc i) y q) o j x e
+pub owned_append : (bs env : List Binding) (ss : List ℕ) → OwnedIn bs ss → OwnedIn env ss → (j : ℕ) (b : Binding) → get_elem? (bs ++ env) j ≡ some b → In b.owner ss
+owned_append [] env ss h o j x e = o j x e
+owned_append (b ∷ bs) env ss h o zero x e = h 0 x e
+owned_append (b ∷ bs) env ss h o (suc j) x e = owned_append bs env ss (λ i y q. h (suc i) y q) o j x e
 
-pub name-some : (f : Forest) → NameFirst f → Some f
+pub name_some : (f : Forest) → NameFirst f → Some f
 unfolding NameFirst Some
-name-some nil h = h
-name-some (node a k v kids rest) h = tt
+name_some nil h = h
+name_some (node a k v kids rest) h = tt
 
 module _ {part : List ℕ} {at : ℕ} {s : State} {m : Mem} (p : PreDef part at s m) where
   abbrev pub d-kids : List ℕ
   d-kids = take (length part - 8) (drop 8 part)
 
-  d-some : (g : Ghost part at s m) → Some (x-one p.one g).kids
-  d-some g = go p.function
+  d_some : (g : Ghost part at s m) → Some (x-one p.one g).kids
+  d_some g = go p.function
     where
       go : (kind_of part ≡ 6) ⊎ (kind_of part ≡ 12) → Some (x-one p.one g).kids
-      go (inl e) = name-some _ ((x-one p.one g).ok.def e).1
+      go (inl e) = name_some _ ((x-one p.one g).ok.def e).1
       go (inr e) = ((x-one p.one g).ok.lambda e).1
 
   abbrev d-parted : Ghost part at s m → Parted d-kids
-  d-parted g = record { at = at + 1; f = (x-one p.one g).kids; reads = (x-one p.one g).under; some = d-some g }
+  d-parted g = record { at = at + 1; f = (x-one p.one g).kids; reads = (x-one p.one g).under; some = d_some g }
 
   -- what `last` is asked
-  pub d-last-pre : (length d-kids ≤ 16384) × Parted d-kids
-  d-last-pre = (omega (arith, p.one.pre.within, x-kids-length p.one), d-parted p.one.pre.ghost)
+  pub d_last_pre : (length d-kids ≤ 16384) × Parted d-kids
+  d_last_pre = (omega (arith, p.one.pre.within, x_kids_length p.one), d-parted p.one.pre.ghost)
 
   module _ (b : ℕ) (last : (q : Parted d-kids) → LastAt d-kids q.at q.f b) where
     abbrev d-last : (g : Ghost part at s m) → LastAt d-kids (at + 1) (x-one p.one g).kids b
@@ -58,34 +58,34 @@ module _ {part : List ℕ} {at : ℕ} {s : State} {m : Mem} (p : PreDef part at 
     abbrev d-body : Ghost part at s m → Forest
     d-body g = let l = d-last g in node l.a l.k l.v l.kids nil
 
-    d-cut : (g : Ghost part at s m) → Cut d-kids (at + 1) b (d-last g).front (d-body g)
-    d-cut g = cut-last (d-last g)
+    d_cut : (g : Ghost part at s m) → Cut d-kids (at + 1) b (d-last g).front (d-body g)
+    d_cut g = cut_last (d-last g)
 
-    pub d-inside : b + 8 ≤ length part - 8
-    d-inside = omega (arith, (d-last p.one.pre.ghost).inside, x-kids-length p.one)
+    pub d_inside : b + 8 ≤ length part - 8
+    d_inside = omega (arith, (d-last p.one.pre.ghost).inside, x_kids_length p.one)
 
-    pub d-front-length : length (front d-kids b) ≡ b
-    d-front-length = front_length d-kids b (d-cut p.one.pre.ghost).inside
+    pub d_front-length : length (front d-kids b) ≡ b
+    d_front-length = front_length d-kids b (d_cut p.one.pre.ghost).inside
 
-    pub d-back-length : length (back d-kids b) ≡ length part - 8 - b
-    d-back-length = back-length d-kids b (d-cut p.one.pre.ghost).inside ∙ omega (arith, x-kids-length p.one)
+    pub d_back-length : length (back d-kids b) ≡ length part - 8 - b
+    d_back-length = back-length d-kids b (d_cut p.one.pre.ghost).inside ∙ omega (arith, x_kids_length p.one)
 
     -- outside
     abbrev d-front-ghost : Ghost part at s m → Ghost (front d-kids b) (at + 1) s m
     d-front-ghost g =
         let l = d-last g in
-        passed_on g l.front g.st (d-cut g).first (fine-front l.front (d-body g) (subst (Fine g.ss) l.split (x-kids-fine p.one g))) g.rel
+        passed_on g l.front g.st (d_cut g).first (fine_front l.front (d-body g) (subst (Fine g.ss) l.split (x_kids_fine p.one g))) g.rel
 
-    pub d-front-pre : Pre (front d-kids b) (at + 1) s m
-    d-front-pre = record {
+    pub d_front_pre : Pre (front d-kids b) (at + 1) s m
+    d_front_pre = record {
       long = p.one.pre.long;
-      within = omega (arith, p.one.pre.within, x-long p.one, d-inside, d-front-length);
+      within = omega (arith, p.one.pre.within, x_long p.one, d_inside, d_front-length);
       ghost = d-front-ghost p.one.pre.ghost;
     }
 
     module _ (scope : ℕ) (e : scope ≡ value_of part) {s₁ : State} {m₁ : Mem} (x : Done (front d-kids b) (at + 1) false s m s₁ m₁) where
-      d-fine : (g : Ghost part at s m) → Fine g.ss (node at (kind_of part) scope (x-one p.one g).kids nil)
-      d-fine g = rw e (x-fine p.one g)
+      d_fine : (g : Ghost part at s m) → Fine g.ss (node at (kind_of part) scope (x-one p.one g).kids nil)
+      d_fine g = rw e (x_fine p.one g)
 
       d_small : (g : Ghost part at s m) → scope < 256
       d_small g = rw e (go p.function)
@@ -103,24 +103,24 @@ module _ {part : List ℕ} {at : ℕ} {s : State} {m : Mem} (p : PreDef part at 
         st = _;
         w = m₁.w;
         small = d_small g;
-        deep = fine-room at (kind_of part) scope (x-one p.one g).kids nil p.function (d-fine g);
+        deep = fine_room at (kind_of part) scope (x-one p.one g).kids nil p.function (d_fine g);
         settled = g.settled;
         owned = g.owned;
-        unmet = fine-new at (kind_of part) scope (x-one p.one g).kids nil p.function (d-fine g);
+        unmet = fine_new at (kind_of part) scope (x-one p.one g).kids nil p.function (d_fine g);
         rel = x.right (d-front-ghost g);
       }
 
-      pub d-enter-pre : Kept m m₁ → (2304 ≤ length m₁.binds) × (length m₁.t ≡ 20864) × Entering scope s₁ m₁.binds m₁.t
-      d-enter-pre k = let l = long_kept p.one.pre.long k in (l.binds, l.t, d-entering p.one.pre.ghost)
+      pub d_enter_pre : Kept m m₁ → (2304 ≤ length m₁.binds) × (length m₁.t ≡ 20864) × Entering scope s₁ m₁.binds m₁.t
+      d_enter_pre k = let l = long_kept p.one.pre.long k in (l.binds, l.t, d-entering p.one.pre.ghost)
 
       module _ {s₂ : State} {t₂ : List ℕ} (y : Entered scope s₁ m₁.binds m₁.t s₂ t₂) where
-        d-owned : (g : Ghost part at s m) → OwnedIn (g.W.D scope ++ g.env) (scope ∷ g.ss)
-        d-owned g = owned-append (g.W.D scope) g.env (scope ∷ g.ss) (λ j v q. inl (g.settled.owners scope j v q)) (λ j v q. inr (g.owned j v q))
+        d_owned : (g : Ghost part at s m) → OwnedIn (g.W.D scope ++ g.env) (scope ∷ g.ss)
+        d_owned g = owned_append (g.W.D scope) g.env (scope ∷ g.ss) (λ j v q. inl (g.settled.owners scope j v q)) (λ j v q. inr (g.owned j v q))
 
-        d-inner : (g : Ghost part at s m) → Fine (scope ∷ g.ss) (d-body g)
-        d-inner g =
+        d_inner : (g : Ghost part at s m) → Fine (scope ∷ g.ss) (d-body g)
+        d_inner g =
             let l = d-last g in
-            fine_back l.front (d-body g) (subst (Fine (scope ∷ g.ss)) l.split (fine-inside at (kind_of part) scope (x-one p.one g).kids nil p.function (d-fine g)))
+            fine_back l.front (d-body g) (subst (Fine (scope ∷ g.ss)) l.split (fine_inside at (kind_of part) scope (x-one p.one g).kids nil p.function (d_fine g)))
 
         -- the last child
         abbrev d-body-ghost : Ghost part at s m → Ghost (back d-kids b) (at + 1 + b / 8) s₂ (mem m₁.binds m₁.w t₂)
@@ -131,23 +131,23 @@ module _ {part : List ℕ} {at : ℕ} {s : State} {m : Mem} (p : PreDef part at 
           st = _;
           f = d-body g;
           settled = g.settled;
-          reads = (d-cut g).second;
-          valid = (d-inner g).valid;
-          deep = (d-inner g).deep;
+          reads = (d_cut g).second;
+          valid = (d_inner g).valid;
+          deep = (d_inner g).deep;
           around = omega arith;
-          owned = d-owned g;
-          apart = (d-inner g).apart;
-          unmet = (d-inner g).unmet;
+          owned = d_owned g;
+          apart = (d_inner g).apart;
+          unmet = (d_inner g).unmet;
           rel = y.right (d-entering g);
         }
 
-        d-long : Kept m m₁ → length t₂ ≡ length m₁.t → Long (mem m₁.binds m₁.w t₂)
-        d-long k e = let l = long_kept p.one.pre.long k in record { binds = l.binds; w = l.w; t = e ∙ l.t }
+        d_long : Kept m m₁ → length t₂ ≡ length m₁.t → Long (mem m₁.binds m₁.w t₂)
+        d_long k e = let l = long_kept p.one.pre.long k in record { binds = l.binds; w = l.w; t = e ∙ l.t }
 
-        pub d-body-pre : Kept m m₁ → length t₂ ≡ length m₁.t → Pre1 (back d-kids b) (at + 1 + b / 8) s₂ (mem m₁.binds m₁.w t₂)
-        d-body-pre k e =
+        pub d_body_pre : Kept m m₁ → length t₂ ≡ length m₁.t → Pre1 (back d-kids b) (at + 1 + b / 8) s₂ (mem m₁.binds m₁.w t₂)
+        d_body_pre k e =
             let g = p.one.pre.ghost in
-            alone-pre (d-body-ghost g) _ _ _ (d-last g).kids refl (d-long k e) (omega (arith, p.one.pre.within, x-long p.one, d-inside, d-back-length, (d-last g).eights))
+            alone_pre (d-body-ghost g) _ _ _ (d-last g).kids refl (d_long k e) (omega (arith, p.one.pre.within, x_long p.one, d_inside, d_back-length, (d-last g).eights))
 
         module _ {s₃ : State} {m₃ : Mem} (z : Done (back d-kids b) (at + 1 + b / 8) false s₂ (mem m₁.binds m₁.w t₂) s₃ m₃) where
           -- and out
@@ -163,12 +163,12 @@ module _ {part : List ℕ} {at : ℕ} {s : State} {m : Mem} (p : PreDef part at 
             rel = z.right (d-body-ghost g);
           }
 
-          pub d-leave-pre : Kept m m₁ → length t₂ ≡ length m₁.t → Kept (mem m₁.binds m₁.w t₂) m₃ → (2304 ≤ length m₃.binds) × (length m₃.t ≡ 20864) × Leaving scope s₃ m₃.binds m₃.t
-          d-leave-pre k e j = let l = long_kept (d-long k e) j in (l.binds, l.t, d-leaving p.one.pre.ghost)
+          pub d_leave_pre : Kept m m₁ → length t₂ ≡ length m₁.t → Kept (mem m₁.binds m₁.w t₂) m₃ → (2304 ≤ length m₃.binds) × (length m₃.t ≡ 20864) × Leaving scope s₃ m₃.binds m₃.t
+          d_leave_pre k e j = let l = long_kept (d_long k e) j in (l.binds, l.t, d-leaving p.one.pre.ghost)
 
-          pub d-done : {r : State} {t₄ : List ℕ} → Left scope s₃ m₃.binds m₃.t r t₄ → DoneAny part at s m r (mem m₃.binds m₃.w t₄)
-          d-done u = record {
+          pub d_done : {r : State} {t₄ : List ℕ} → Left scope s₃ m₃.binds m₃.t r t₄ → DoneAny part at s m r (mem m₃.binds m₃.w t₄)
+          d_done u = record {
             right = λ g ty.
                 let l = d-last g in
-                x-right p.one g ty _ (function-node _ _ _ at _ (value_of part) (x-one p.one g).kids scope (sym e) l.front _ _ _ l.kids p.function l.split g.env g.ss ty g.st) (u.right (d-leaving g));
+                x_right p.one g ty _ (function_node _ _ _ at _ (value_of part) (x-one p.one g).kids scope (sym e) l.front _ _ _ l.kids p.function l.split g.env g.ss ty g.st) (u.right (d-leaving g));
           }

@@ -17,11 +17,11 @@ use Rattle.store.specs.Sections.{Mem, Long}
 use Rattle.store.specs.Rel.{R}
 use Rattle.store.specs.Laws.Lengths.{Kept, long_kept}
 use Rattle.lookup.specs.Lookup.{Ident, IdentDone}
-use Rattle.nodefile.specs.Parts.{alone, One, one, kids-length, Split, Walk, Left, Sibling, left-start, left_end, left_split, left-sibling, left_one, left-fine, left-reads, left-more, sibling-length, sibling-size}
-use Rattle.idents.specs.Cycle.{Ghost, Pre, Pre1, PreKind, Done, DoneAny, resolvedAt}
-use Rattle.idents.proofs.Fine.{Fine, fine-kids, fine-opened}
-use Rattle.idents.proofs.Joined.{reads-joined}
-use Rattle.idents.proofs.Resolving.{ctx, resolving, Other, other-node, opened-node, type-node, ident-node}
+use Rattle.nodefile.specs.Parts.{alone, One, one, kids_length, Split, Walk, Left, Sibling, left_start, left_end, left_split, left_sibling, left_one, left_fine, left_reads, left_more, sibling_length, sibling_size}
+use Rattle.idents.specs.Cycle.{Ghost, Pre, Pre1, PreKind, Done, DoneAny, resolved_at}
+use Rattle.idents.proofs.Fine.{Fine, fine_kids, fine_opened}
+use Rattle.idents.proofs.Joined.{reads_joined}
+use Rattle.idents.proofs.Resolving.{ctx, resolving, Other, other_node, opened_node, type_node, ident_node}
 
 -- ---- what is handed on
 
@@ -53,26 +53,26 @@ module _ {part : List ℕ} {at : ℕ} {s : State} {m : Mem} (g : Ghost part at s
   walk_of ty = resolving g.W.F.names g.W.D (outer g.W.mods g.W.F.globals) (ctx g.env g.ss ty)
 
 -- a part that holds one node is as long as that node says
-pub whole-node : (t : List ℕ) (at a k v : ℕ) (kids : Forest) → Reads t at (node a k v kids nil) → (0 < size_of t) × (8 * size_of t ≡ length t)
-whole-node t at a k v kids r = (r.some, omega (arith, r.inside, ap length r.after, length-drop (8 * size_of t) t))
+pub whole_node : (t : List ℕ) (at a k v : ℕ) (kids : Forest) → Reads t at (node a k v kids nil) → (0 < size_of t) × (8 * size_of t ≡ length t)
+whole_node t at a k v kids r = (r.some, omega (arith, r.inside, ap length r.after, length-drop (8 * size_of t) t))
 
 -- ---- each: between one node and the next
 
 -- without the node at byte i itself the part holds its children, and then what follows it
-opened-reads : (part : List ℕ) (i n : ℕ) {f : Forest} (p : Split (drop i part) n f) → Reads (drop (i + 8) part) (n + 1) (p.kids ⊕ p.rest)
-opened-reads part i n p =
+opened_reads : (part : List ℕ) (i n : ℕ) {f : Forest} (p : Split (drop i part) n f) → Reads (drop (i + 8) part) (n + 1) (p.kids ⊕ p.rest)
+opened_reads part i n p =
     let t : List ℕ = drop i part in
     let k : ℕ = size_of t in
     let l : length (below t) ≡ 8 * (k - 1) = length-take-le (8 * k - 8) (drop 8 t) (omega (arith, length-drop 8 t, p.inside)) ∙ omega (arith, p.some) in
     let z : n + k ≡ n + 1 + (k - 1) = omega (arith, p.some) in
     let y : 8 * k ≡ 8 + (8 * k - 8) = omega (arith, p.some) in
-    let q = reads-joined p.kids p.rest (below t) (after t) (n + 1) (k - 1) l p.under (subst (λ (x : ℕ). Reads (after t) x p.rest) z p.after) in
+    let q = reads_joined p.kids p.rest (below t) (after t) (n + 1) (k - 1) l p.under (subst (λ (x : ℕ). Reads (after t) x p.rest) z p.after) in
     let e : after t ≡ drop (8 * k - 8) (drop 8 t) = ap (λ (x : ℕ). drop x t) y ∙ sym (drop-drop (8 * k - 8) 8 t) in
     let w : below t ++ after t ≡ drop (i + 8) part = ap (λ (u : List ℕ). below t ++ u) e ∙ take-append-drop (8 * k - 8) (drop 8 t) ∙ drop-drop 8 i part in
     subst (λ (u : List ℕ). Reads u (n + 1) (p.kids ⊕ p.rest)) w q
 
 abbrev Rest : (part : List ℕ) (at : ℕ) (ty : Bool) (s₀ : State) (m₀ : Mem) (s : State) (n i : ℕ) (m : Mem) → Ghost part at s₀ m₀ → Type 0
-Rest part at ty s₀ m₀ s n i m g = Left (walk_of g ty) (λ st. R g.W g.env g.ss st s m) part n i (resolvedAt g ty)
+Rest part at ty s₀ m₀ s n i m g = Left (walk_of g ty) (λ st. R g.W g.env g.ss st s m) part n i (resolved_at g ty)
 
 pub record Mid (part : List ℕ) (at : ℕ) (ty : Bool) (s₀ : State) (m₀ : Mem) (s : State) (n i : ℕ) (m : Mem) : Type 0 where
   pub long : Long m
@@ -87,54 +87,54 @@ k_start {part} {at} {s} {m} ty p = record {
   kept = refl;
   number = omega arith;
   le = omega arith;
-  rest = λ g. left-start (walk_of g ty) (λ st. R g.W g.env g.ss st s m) part at g.f g.st g.reads (fine_of g) g.rel;
+  rest = λ g. left_start (walk_of g ty) (λ st. R g.W g.env g.ss st s m) part at g.f g.st g.reads (fine_of g) g.rel;
 }
 
 module _ {part : List ℕ} {at : ℕ} {ty : Bool} {s₀ : State} {m₀ : Mem} {s : State} {n i : ℕ} {m : Mem} (d : Mid part at ty s₀ m₀ s n i m) where
-  pub k-end : length part ≤ i → Done part at ty s₀ m₀ s m
-  k-end h = record { right = λ g. left_end (walk_of g ty) (d.rest g) h }
+  pub k_end : length part ≤ i → Done part at ty s₀ m₀ s m
+  k_end h = record { right = λ g. left_end (walk_of g ty) (d.rest g) h }
 
   module _ (h : i < length part) where
     -- the node at i
-    pub k-node : Ghost part at s₀ m₀ → Sibling part i
-    k-node g = left-sibling (walk_of g ty) (d.rest g) h
+    pub k_node : Ghost part at s₀ m₀ → Sibling part i
+    k_node g = left_sibling (walk_of g ty) (d.rest g) h
 
     module _ (k : ℕ) (hk : k ≡ size_of (drop i part)) where
       abbrev k-ghost : Ghost part at s₀ m₀ → Ghost (take (i + 8 * k - i) (drop i part)) n s m
       k-ghost g =
           let S = walk_of g ty in
           let l = d.rest g in
-          passed_on g (left_one S l h) l.x (left-reads S l h k hk) (left-fine S l h).0 l.known
+          passed_on g (left_one S l h) l.x (left_reads S l h k hk) (left_fine S l h).0 l.known
 
-      pub k-length : Ghost part at s₀ m₀ → length (take (i + 8 * k - i) (drop i part)) ≡ 8 * k
-      k-length g = sibling-length (k-node g) k hk
+      pub k_length : Ghost part at s₀ m₀ → length (take (i + 8 * k - i) (drop i part)) ≡ 8 * k
+      k_length g = sibling_length (k_node g) k hk
 
-      pub k-pre : 8 * at + length part ≤ 16384 → Ghost part at s₀ m₀ → Pre1 (take (i + 8 * k - i) (drop i part)) n s m
-      k-pre w g =
-          let p = k-node g in
-          let z = sibling-size p k hk in
+      pub k_pre : 8 * at + length part ≤ 16384 → Ghost part at s₀ m₀ → Pre1 (take (i + 8 * k - i) (drop i part)) n s m
+      k_pre w g =
+          let p = k_node g in
+          let z = sibling_size p k hk in
           record {
             some = rw z (omega (arith, p.some));
-            whole = rw z (sym (k-length g));
-            pre = record { long = d.long; within = omega (arith, d.number, p.inside, k-length g); ghost = k-ghost g };
+            whole = rw z (sym (k_length g));
+            pre = record { long = d.long; within = omega (arith, d.number, p.inside, k_length g); ghost = k-ghost g };
           }
 
-      pub k-more : {r : State} {m' : Mem} → Ghost part at s₀ m₀ → Done (take (i + 8 * k - i) (drop i part)) n ty s m r m' → Kept m m' → Mid part at ty s₀ m₀ r (n + k) (i + 8 * k) m'
-      k-more {r} {m'} g₀ x c = record {
+      pub k_more : {r : State} {m' : Mem} → Ghost part at s₀ m₀ → Done (take (i + 8 * k - i) (drop i part)) n ty s m r m' → Kept m m' → Mid part at ty s₀ m₀ r (n + k) (i + 8 * k) m'
+      k_more {r} {m'} g₀ x c = record {
         long = long_kept d.long c;
         kept = c.binds ∙ d.kept;
         number = omega (arith, d.number);
-        le = omega (arith, (k-node g₀).inside);
-        rest = λ g. left-more (walk_of g ty) (d.rest g) h k hk (λ st. R g.W g.env g.ss st r m') (x.right (k-ghost g));
+        le = omega (arith, (k_node g₀).inside);
+        rest = λ g. left_more (walk_of g ty) (d.rest g) h k hk (λ st. R g.W g.env g.ss st r m') (x.right (k-ghost g));
       }
 
     -- an Other is passed over: its children come next, and then what follows it
-    pub k-into : kind_of (drop i part) ≡ 14 → Ghost part at s₀ m₀ → Mid part at ty s₀ m₀ s (n + 1) (i + 8) m
-    k-into e g₀ = record {
+    pub k_into : kind_of (drop i part) ≡ 14 → Ghost part at s₀ m₀ → Mid part at ty s₀ m₀ s (n + 1) (i + 8) m
+    k_into e g₀ = record {
       long = d.long;
       kept = d.kept;
       number = omega (arith, d.number);
-      le = omega (arith, (k-node g₀).inside, (k-node g₀).some);
+      le = omega (arith, (k_node g₀).inside, (k_node g₀).some);
       rest = λ g.
           let S = walk_of g ty in
           let l = d.rest g in
@@ -143,63 +143,63 @@ module _ {part : List ℕ} {at : ℕ} {ty : Bool} {s₀ : State} {m₀ : Mem} {s
           record {
             f = p.kids ⊕ p.rest;
             x = l.x;
-            reads = opened-reads part i n p;
-            fine = fine-opened n (kind_of (drop i part)) (value_of (drop i part)) p.kids p.rest o.0 o.2 (subst (Fine g.ss) p.is l.fine);
+            reads = opened_reads part i n p;
+            fine = fine_opened n (kind_of (drop i part)) (value_of (drop i part)) p.kids p.rest o.0 o.2 (subst (Fine g.ss) p.is l.fine);
             known = l.known;
-            same = opened-node _ _ _ n _ (value_of (drop i part)) p.kids o p.rest _ l.x ∙ ap (λ (f : Forest). S.over f l.x) (sym p.is) ∙ l.same;
+            same = opened_node _ _ _ n _ (value_of (drop i part)) p.kids o p.rest _ l.x ∙ ap (λ (f : Forest). S.over f l.x) (sym p.is) ∙ l.same;
           };
     }
 
 -- ---- one node
 
-pub kind-is : {k : ℕ} {part : List ℕ} {at : ℕ} {s : State} {m : Mem} → PreKind k k part at s m → kind_of part ≡ k
-kind-is p = omega (arith, p.low, p.high)
+pub kind_is : {k : ℕ} {part : List ℕ} {at : ℕ} {s : State} {m : Mem} → PreKind k k part at s m → kind_of part ≡ k
+kind_is p = omega (arith, p.low, p.high)
 
-pub any-done : {part : List ℕ} {at : ℕ} {s : State} {m : Mem} {r : State} {m' : Mem} (ty : Bool) → DoneAny part at s m r m' → Done part at ty s m r m'
-any-done ty x = record { right = λ g. x.right g ty }
+pub any_done : {part : List ℕ} {at : ℕ} {s : State} {m : Mem} {r : State} {m' : Mem} (ty : Bool) → DoneAny part at s m r m' → Done part at ty s m r m'
+any_done ty x = record { right = λ g. x.right g ty }
 
 module _ {part : List ℕ} {at : ℕ} {s : State} {m : Mem} (p : Pre1 part at s m) where
-  pub x-long : 8 ≤ length part
-  x-long = omega (arith, p.some, p.whole)
+  pub x_long : 8 ≤ length part
+  x_long = omega (arith, p.some, p.whole)
 
-  pub x-kind : kind_of part ≤ 18
-  x-kind = let g = p.pre.ghost in (one part p.some p.whole at g.f g.reads g.valid).ok.kind
+  pub x_kind : kind_of part ≤ 18
+  x_kind = let g = p.pre.ghost in (one part p.some p.whole at g.f g.reads g.valid).ok.kind
 
   abbrev pub x-one : (g : Ghost part at s m) → One part at g.f
   x-one g = one part p.some p.whole at g.f g.reads g.valid
 
-  pub x-fine : (g : Ghost part at s m) → Fine g.ss (alone part at (x-one g).kids)
-  x-fine g = subst (Fine g.ss) (x-one g).is (fine_of g)
+  pub x_fine : (g : Ghost part at s m) → Fine g.ss (alone part at (x-one g).kids)
+  x_fine g = subst (Fine g.ss) (x-one g).is (fine_of g)
 
   -- what it comes to
-  pub x-right : {r : State} {m' : Mem} (g : Ghost part at s m) (ty : Bool) (st : St) → (walk_of g ty).over (alone part at (x-one g).kids) g.st ≡ st
-      → R g.W g.env g.ss st r m' → R g.W g.env g.ss (resolvedAt g ty) r m'
-  x-right {r} {m'} g ty st e q =
-      let z : resolvedAt g ty ≡ st = ap (λ (f : Forest). (walk_of g ty).over f g.st) (x-one g).is ∙ e in
+  pub x_right : {r : State} {m' : Mem} (g : Ghost part at s m) (ty : Bool) (st : St) → (walk_of g ty).over (alone part at (x-one g).kids) g.st ≡ st
+      → R g.W g.env g.ss st r m' → R g.W g.env g.ss (resolved_at g ty) r m'
+  x_right {r} {m'} g ty st e q =
+      let z : resolved_at g ty ≡ st = ap (λ (f : Forest). (walk_of g ty).over f g.st) (x-one g).is ∙ e in
       rw z q
 
   -- what its children come to
-  pub x-kids-length : length (take (length part - 8) (drop 8 part)) ≡ length part - 8
-  x-kids-length = kids-length part p.some p.whole
+  pub x_kids_length : length (take (length part - 8) (drop 8 part)) ≡ length part - 8
+  x_kids_length = kids_length part p.some p.whole
 
-  pub x-kids-fine : (g : Ghost part at s m) → Fine g.ss (x-one g).kids
-  x-kids-fine g = fine-kids at (kind_of part) (value_of part) (x-one g).kids nil (x-fine g)
+  pub x_kids_fine : (g : Ghost part at s m) → Fine g.ss (x-one g).kids
+  x_kids_fine g = fine_kids at (kind_of part) (value_of part) (x-one g).kids nil (x_fine g)
 
   abbrev pub x-kids-ghost : Ghost part at s m → Ghost (take (length part - 8) (drop 8 part)) (at + 1) s m
-  x-kids-ghost g = passed_on g (x-one g).kids g.st (x-one g).under (x-kids-fine g) g.rel
+  x-kids-ghost g = passed_on g (x-one g).kids g.st (x-one g).under (x_kids_fine g) g.rel
 
-  pub x-kids-pre : Pre (take (length part - 8) (drop 8 part)) (at + 1) s m
-  x-kids-pre = record {
+  pub x_kids_pre : Pre (take (length part - 8) (drop 8 part)) (at + 1) s m
+  x_kids_pre = record {
     long = p.pre.long;
-    within = omega (arith, p.pre.within, x-kids-length, x-long);
+    within = omega (arith, p.pre.within, x_kids_length, x_long);
     ghost = x-kids-ghost p.pre.ghost;
   }
 
   pub x_others : {ty : Bool} {r : State} {m' : Mem} → Other (kind_of part) → Done (take (length part - 8) (drop 8 part)) (at + 1) ty s m r m' → Done part at ty s m r m'
-  x_others {ty} e x = record { right = λ g. x-right g ty _ (other-node _ _ _ at _ (value_of part) (x-one g).kids e _ g.st) (x.right (x-kids-ghost g)) }
+  x_others {ty} e x = record { right = λ g. x_right g ty _ (other_node _ _ _ at _ (value_of part) (x-one g).kids e _ g.st) (x.right (x-kids-ghost g)) }
 
-  pub x-type : {r : State} {m' : Mem} → kind_of part ≡ 18 → Done (take (length part - 8) (drop 8 part)) (at + 1) true s m r m' → DoneAny part at s m r m'
-  x-type e x = record { right = λ g ty. x-right g ty _ (type-node _ _ _ at _ (value_of part) (x-one g).kids e g.env g.ss ty g.st) (x.right (x-kids-ghost g)) }
+  pub x_type : {r : State} {m' : Mem} → kind_of part ≡ 18 → Done (take (length part - 8) (drop 8 part)) (at + 1) true s m r m' → DoneAny part at s m r m'
+  x_type e x = record { right = λ g ty. x_right g ty _ (type_node _ _ _ at _ (value_of part) (x-one g).kids e g.env g.ss ty g.st) (x.right (x-kids-ghost g)) }
 
   -- an Ident
   abbrev x-ident-ghost : (name : ℕ) → name ≡ value_of part → kind_of part ≡ 11 → Ghost part at s m → Ident name at s m
@@ -207,10 +207,10 @@ module _ {part : List ℕ} {at : ℕ} {s : State} {m : Mem} (p : Pre1 part at s 
       let o = x-one g in
       record { W = g.W; env = g.env; ss = g.ss; st = g.st; settled = g.settled; rel = g.rel; known = rw e (o.ok.ident h).0; node = o.ok.number }
 
-  pub x-ident-pre : (name : ℕ) → name ≡ value_of part → kind_of part ≡ 11 → Long m × Ident name at s m
-  x-ident-pre name e h = (p.pre.long, x-ident-ghost name e h p.pre.ghost)
+  pub x_ident_pre : (name : ℕ) → name ≡ value_of part → kind_of part ≡ 11 → Long m × Ident name at s m
+  x_ident_pre name e h = (p.pre.long, x-ident-ghost name e h p.pre.ghost)
 
-  pub x-ident : (name : ℕ) (e : name ≡ value_of part) (h : kind_of part ≡ 11) {ty : Bool} {r : State} {m' : Mem} → IdentDone name at ty s m r m' → Done part at ty s m r m'
-  x-ident name e h {ty} x = record {
-    right = λ g. x-right g ty _ (ident-node _ _ _ at _ (value_of part) (x-one g).kids name (sym e) h ((x-one g).ok.ident h).1 _ g.st) (x.right (x-ident-ghost name e h g));
+  pub x_ident : (name : ℕ) (e : name ≡ value_of part) (h : kind_of part ≡ 11) {ty : Bool} {r : State} {m' : Mem} → IdentDone name at ty s m r m' → Done part at ty s m r m'
+  x_ident name e h {ty} x = record {
+    right = λ g. x_right g ty _ (ident_node _ _ _ at _ (value_of part) (x-one g).kids name (sym e) h ((x-one g).ok.ident h).1 _ g.st) (x.right (x-ident-ghost name e h g));
   }

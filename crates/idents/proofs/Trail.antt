@@ -9,16 +9,16 @@ use lib.Seq.{take-add, drop-drop, length-take-le}
 use Rattle.lexical.specs.Tree.{Forest, nil, node, ◌⊕◌}
 use Rattle.nodefile.specs.Node.{kind_of, size_of, value_of, after}
 use Rattle.nodefile.specs.Reads.{Reads, reads_none}
-use Rattle.nodefile.specs.Parts.{alone, Split, split, some-long}
+use Rattle.nodefile.specs.Parts.{alone, Split, split, some_long}
 use Rattle.idents.specs.Cycle.{Parted, LastAt}
-use Rattle.idents.proofs.Joined.{joined-more, reads-joined}
+use Rattle.idents.proofs.Joined.{joined_more, reads_joined}
 
 pub record Passed (part : List ℕ) (at : ℕ) (f : Forest) (i : ℕ) : Type 0 where
   pub front : Forest
   pub rest : Forest
   pub is : f ≡ front ⊕ rest
   pub front_reads : Reads (take i part) at front
-  pub rest-reads : Reads (drop i part) (at + i / 8) rest
+  pub rest_reads : Reads (drop i part) (at + i / 8) rest
 
 -- e: the byte at which the node at byte i ends
 pub record Trail (part : List ℕ) (i e : ℕ) : Type 0 where
@@ -27,21 +27,21 @@ pub record Trail (part : List ℕ) (i e : ℕ) : Type 0 where
   pub end : e ≡ i + 8 * size_of (drop i part)
   pub passed : (g : Parted part) → Passed part g.at g.f i
 
-pub trail-start : (part : List ℕ) (e : ℕ) → Parted part → e ≡ 8 * size_of part → Trail part 0 e
-trail-start part e p h = record {
+pub trail_start : (part : List ℕ) (e : ℕ) → Parted part → e ≡ 8 * size_of part → Trail part 0 e
+trail_start part e p h = record {
   eights = omega arith;
-  low = omega (arith, some-long part p.at p.f p.reads p.some);
+  low = omega (arith, some_long part p.at p.f p.reads p.some);
   end = h ∙ omega arith;
-  passed = λ g. record { front = nil; rest = g.f; is = unfold ◌⊕◌ in refl; front_reads = refl; rest-reads = rw add-zero g.reads };
+  passed = λ g. record { front = nil; rest = g.f; is = unfold ◌⊕◌ in refl; front_reads = refl; rest_reads = rw add-zero g.reads };
 }
 
 module _ {part : List ℕ} {i e : ℕ} (d : Trail part i e) where
   -- the node at byte i
-  at-node : (g : Parted part) → Split (drop i part) (g.at + i / 8) (d.passed g).rest
-  at-node g = split (drop i part) (g.at + i / 8) (d.passed g).rest (omega (arith, length-drop i part, d.low)) (d.passed g).rest-reads
+  at_node : (g : Parted part) → Split (drop i part) (g.at + i / 8) (d.passed g).rest
+  at_node g = split (drop i part) (g.at + i / 8) (d.passed g).rest (omega (arith, length-drop i part, d.low)) (d.passed g).rest_reads
 
-  pub trail-inside : Parted part → (i < e) × (e ≤ length part)
-  trail-inside g = let p = at-node g in omega (arith, d.end, length-drop i part, p.some, p.inside)
+  pub trail_inside : Parted part → (i < e) × (e ≤ length part)
+  trail_inside g = let p = at_node g in omega (arith, d.end, length-drop i part, p.some, p.inside)
 
   module _ (h : e < length part) (k : ℕ) (hk : k ≡ size_of (drop e part)) where
     eighth : (n : ℕ) → n + i / 8 + size_of (drop i part) ≡ n + e / 8
@@ -49,7 +49,7 @@ module _ {part : List ℕ} {i e : ℕ} (d : Trail part i e) where
 
     on : (g : Parted part) → Passed part g.at g.f e
     on g =
-        let p = at-node g in
+        let p = at_node g in
         let q = d.passed g in
         let t = drop i part in
         let o : Forest = alone t (g.at + i / 8) p.kids in
@@ -59,17 +59,17 @@ module _ {part : List ℕ} {i e : ℕ} (d : Trail part i e) where
         record {
           front = q.front ⊕ o;
           rest = p.rest;
-          is = q.is ∙ ap (λ (x : Forest). q.front ⊕ x) p.is ∙ joined-more q.front _ _ _ p.kids p.rest;
-          front_reads = rw (← c) (reads-joined q.front o (take i part) (take (8 * size_of t) t) g.at (i / 8) l q.front_reads p.one);
-          rest-reads = rw (← b, ← eighth g.at) p.after;
+          is = q.is ∙ ap (λ (x : Forest). q.front ⊕ x) p.is ∙ joined_more q.front _ _ _ p.kids p.rest;
+          front_reads = rw (← c) (reads_joined q.front o (take i part) (take (8 * size_of t) t) g.at (i / 8) l q.front_reads p.one);
+          rest_reads = rw (← b, ← eighth g.at) p.after;
         }
 
     pub trail_more : Parted part → Trail part e (e + 8 * k)
     trail_more g = record { eights = omega (arith, d.end, d.eights); low = h; end = omega arith; passed = on }
 
-  pub trail-end : length part ≤ e → (g : Parted part) → LastAt part g.at g.f i
-  trail-end h g =
-      let p = at-node g in
+  pub trail_end : length part ≤ e → (g : Parted part) → LastAt part g.at g.f i
+  trail_end h g =
+      let p = at_node g in
       let q = d.passed g in
       let t = drop i part in
       let n : p.rest ≡ nil = reads_none p.rest (after t) _ (omega (arith, d.end, length-drop i part, length-drop (8 * size_of t) t)) p.after in
@@ -84,5 +84,5 @@ module _ {part : List ℕ} {i e : ℕ} (d : Trail part i e) where
         kids = p.kids;
         split = q.is ∙ ap (λ (x : Forest). q.front ⊕ x) z;
         front_reads = q.front_reads;
-        last-reads = subst (Reads t (g.at + i / 8)) z q.rest-reads;
+        last_reads = subst (Reads t (g.at + i / 8)) z q.rest_reads;
       }

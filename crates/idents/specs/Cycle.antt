@@ -1,7 +1,7 @@
 -- Resolving some nodes: contracts of the functions that call one another.
 use Rattle.std.specs.Prelude.{ℕ, ◌+◌, ◌*◌, ◌/◌, ◌<◌, ◌≤◌, ◌≡◌, Bool, ◌⊎◌, List, length, take, drop}
 use Rattle.lexical.specs.Places.{In, Distinct}
-use Rattle.lexical.specs.Tree.{Forest, nil, node, scopesIn, ◌⊕◌}
+use Rattle.lexical.specs.Tree.{Forest, nil, node, scopes_in, ◌⊕◌}
 use Rattle.lexical.specs.Module.{outer}
 use Rattle.lexical.specs.State.{Binding, St}
 use Rattle.lexical.specs.Code.Visit.{each}
@@ -28,8 +28,8 @@ pub record Ghost (part : List ℕ) (at : ℕ) (s : State) (m : Mem) : Type 0 whe
   pub deep : length ss + height f ≤ 127
   pub around : 0 < length ss
   pub owned : OwnedIn env ss
-  pub apart : Distinct (scopesIn f)
-  pub unmet : (s : ℕ) → In s (scopesIn f) → In s ss → ⊥
+  pub apart : Distinct (scopes_in f)
+  pub unmet : (s : ℕ) → In s (scopes_in f) → In s ss → ⊥
   pub rel : R W env ss st s m
 
 pub record Pre (part : List ℕ) (at : ℕ) (s : State) (m : Mem) : Type 0 where
@@ -50,15 +50,15 @@ pub record PreKind (lo hi : ℕ) (part : List ℕ) (at : ℕ) (s : State) (m : M
   pub one : Pre1 part at s m
 
 -- what the names of the forest come to, as `lexical` resolves them
-abbrev pub resolvedAt : {part : List ℕ} {at : ℕ} {s : State} {m : Mem} → Ghost part at s m → Bool → St
-resolvedAt g ty = each g.W.F.names g.W.D (outer g.W.mods g.W.F.globals) g.f (record { env = g.env; scopes = g.ss; ty = ty }) g.st
+abbrev pub resolved_at : {part : List ℕ} {at : ℕ} {s : State} {m : Mem} → Ghost part at s m → Bool → St
+resolved_at g ty = each g.W.F.names g.W.D (outer g.W.mods g.W.F.globals) g.f (record { env = g.env; scopes = g.ss; ty = ty }) g.st
 
 pub record Done (part : List ℕ) (at : ℕ) (ty : Bool) (s : State) (m : Mem) (r : State) (m' : Mem) : Type 0 where
-  pub right : (g : Ghost part at s m) → R g.W g.env g.ss (resolvedAt g ty) r m'
+  pub right : (g : Ghost part at s m) → R g.W g.env g.ss (resolved_at g ty) r m'
 
 -- the same where the node itself decides what counts as a type
 pub record DoneAny (part : List ℕ) (at : ℕ) (s : State) (m : Mem) (r : State) (m' : Mem) : Type 0 where
-  pub right : (g : Ghost part at s m) (ty : Bool) → R g.W g.env g.ss (resolvedAt g ty) r m'
+  pub right : (g : Ghost part at s m) (ty : Bool) → R g.W g.env g.ss (resolved_at g ty) r m'
 
 -- a Def or a Lambda
 pub record PreDef (part : List ℕ) (at : ℕ) (s : State) (m : Mem) : Type 0 where
@@ -83,4 +83,4 @@ pub record LastAt (part : List ℕ) (at : ℕ) (f : Forest) (b : ℕ) : Type 0 w
   pub kids : Forest
   pub split : f ≡ front ⊕ node a k v kids nil
   pub front_reads : Reads (take b part) at front
-  pub last-reads : Reads (drop b part) (at + b / 8) (node a k v kids nil)
+  pub last_reads : Reads (drop b part) (at + b / 8) (node a k v kids nil)

@@ -5,7 +5,7 @@
 // `idents_in_clause` is its `resolve_idents_in_for_clause`, and what it does at an IfClause;
 // `idents_in_param` is what its `resolve_idents_in_def` does at a parameter.
 ghost use Rattle.std.specs.Prelude.{◌≡◌, true, false, ◌+◌, ◌*◌, ◌≤◌, ◌<◌, length};
-ghost use Rattle.store.specs.Sections.{mem, manyNodes};
+ghost use Rattle.store.specs.Sections.{mem, many_nodes};
 ghost use Rattle.idents.specs.Cycle.{Pre, Pre1, PreKind, PreDef, Done, DoneAny, Parted, LastAt};
 
 use nodefile::kinds;
@@ -13,7 +13,7 @@ use store::State;
 
 // The byte at which the last of the nodes of a part starts.
 fn last(part: &[u8]) -> usize
-    requires { (length part.now ≤ 8 * manyNodes) × Parted part.now }
+    requires { (length part.now ≤ 8 * many_nodes) × Parted part.now }
     ensures { (g : Parted part.now) → LastAt part.now g.at g.f result }
 {
     let mut i = 0;

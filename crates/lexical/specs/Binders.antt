@@ -22,12 +22,12 @@ pub record Target : Type 0 where
   pub public : Bool
 
 -- a name bound by Load is shown if the file passes such names on
-unfoldable pub loadShown : Names → Bool
-loadShown N = N.reexport
+unfoldable pub load_shown : Names → Bool
+load_shown N = N.reexport
 
 -- a target's visibility: a parameter is Public; else Private if the name begins with `_`, or in a Load that is not shown
 unfoldable pub visible : Names → Marks → ℕ → Bool
-visible N m n = m.param || (not (N.hidden n) && (not m.load || loadShown N))
+visible N m n = m.param || (not (N.hidden n) && (not m.load || load_shown N))
 
 unfoldable pub target : Names → Marks → ℕ → ℕ → Target
 target N m at n = record {
@@ -38,15 +38,15 @@ target N m at n = record {
 }
 
 -- a Def's first child, its name
-unfoldable pub headTarget : Names → Marks → Forest → List Target
-headTarget N m nil = []
-headTarget N m (node at k v kids rest) = target N m at v ∷ []
+unfoldable pub head_target : Names → Marks → Forest → List Target
+head_target N m nil = []
+head_target N m (node at k v kids rest) = target N m at v ∷ []
 
 -- what one node gives, by its pick; `go` collects its children under the marks it is given
 unfoldable pub gather : Names → Marks → Pick → ℕ → ℕ → Forest → (Marks → List Target) → List Target
 gather N m through at v kids go = go m
 gather N m shut at v kids go = []
-gather N m head at v kids go = headTarget N m kids
+gather N m head at v kids go = head_target N m kids
 gather N m name at v kids go = target N m at v ∷ []
 gather N m loop at v kids go = go (record { loop = true; load = m.load; param = m.param })
 gather N m load at v kids go = go (record { loop = m.loop; load = true; param = m.param })
@@ -82,8 +82,8 @@ pub record Var : Type 0 where
 abbrev pub titles : List Var → List ℕ
 titles vs = map (λ (v : Var). v.name) vs
 
-unfoldable pub newVar : Target → Var
-newVar t = record { name = t.name; source = t.node; entry = false; public = t.public; any = t.any }
+unfoldable pub new_var : Target → Var
+new_var t = record { name = t.name; source = t.node; entry = false; public = t.public; any = t.any }
 
 -- a name bound again becomes any; a Public target promotes a Private variable, none is demoted
 unfoldable pub again : Target → Var → Var
@@ -91,7 +91,7 @@ again t v = record { name = v.name; source = v.source; entry = v.entry; public =
 
 -- one target more: a new name makes a variable, at the end
 unfoldable pub note : Target → List Var → List Var
-note t [] = newVar t ∷ []
+note t [] = new_var t ∷ []
 note t (v ∷ vs) = cond (eqb v.name t.name) (again t v ∷ vs) (v ∷ note t vs)
 
 unfoldable pub merge : List Var → List Target → List Var

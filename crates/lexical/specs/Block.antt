@@ -6,24 +6,24 @@ use Rattle.lexical.specs.Binders.{Target, Var, merge}
 use Rattle.lexical.specs.State.{Binding, Slot, local, Named, St}
 
 -- a scope's next slot is the number of those it has
-unfoldable pub inScope : ℕ → Slot → Bool
-inScope s r = eqb r.scope s
+unfoldable pub in_scope : ℕ → Slot → Bool
+in_scope s r = eqb r.scope s
 
-unfoldable pub freshIn : ℕ → List Slot → ℕ
-freshIn s rs = count (inScope s) rs
+unfoldable pub fresh_in : ℕ → List Slot → ℕ
+fresh_in s rs = count (in_scope s) rs
 
 abbrev pub fresh : ℕ → St → ℕ
-fresh s st = freshIn s st.slots
+fresh s st = fresh_in s st.slots
 
-unfoldable pub slotFor : ℕ → ℕ → Binding → Slot
-slotFor s k b = record { scope = s; num = k; name = b.var.name; id = b.id }
+unfoldable pub slot_for : ℕ → ℕ → Binding → Slot
+slot_for s k b = record { scope = s; num = k; name = b.var.name; id = b.id }
 
 -- a fresh binding, and the state with it and its slot
 unfoldable pub new : ℕ → Var → St → Binding
 new s v st = record { id = length st.made; var = v; local = true; owner = s; slot = fresh s st }
 
 unfoldable pub add : ℕ → Binding → St → St
-add s b st = record { made = st.made ++ (b ∷ []); named = st.named; slots = st.slots ++ (slotFor s b.slot b ∷ []); copies = st.copies; log = st.log }
+add s b st = record { made = st.made ++ (b ∷ []); named = st.named; slots = st.slots ++ (slot_for s b.slot b ∷ []); copies = st.copies; log = st.log }
 
 unfoldable pub bind : ℕ → List Var → St → List Binding × St
 bind s [] st = ([], st)

@@ -4,26 +4,26 @@ use Rattle.std.proofs.Math.Option.{Option, none, some}
 use Rattle.std.proofs.Math.ListN.{get_elem?}
 use Rattle.lexical.specs.Lists.{first, map_o, or_else}
 use Rattle.lexical.specs.Places.{up_from, All, In, Distinct}
-use Rattle.lexical.specs.Tree.{nodesIn, params, empty, Forest, Way, plain, top, scopesIn, nil, node, way}
-use Rattle.lexical.specs.Table.{paramNames}
+use Rattle.lexical.specs.Tree.{nodes_in, params, empty, Forest, Way, plain, top, scopes_in, nil, node, way}
+use Rattle.lexical.specs.Table.{param_names}
 use Rattle.lexical.specs.Binders.{merge, Names, Target, Var, collect, unmarked, targets}
-use Rattle.lexical.specs.Module.{outerOf, global, missing, moduleVars, Outer, File, entryVar, module'}
-use Rattle.lexical.specs.Meaning.{Around, around, declares, declared, scopesOf, Meaning, local, refused, outside, Site, meaning}
+use Rattle.lexical.specs.Module.{outer_of, global, missing, module_vars, Outer, File, entry_var, module'}
+use Rattle.lexical.specs.Meaning.{Around, around, declares, declared, scopes_of, Meaning, local, refused, outside, Site, meaning}
 use Rattle.lexical.specs.Order.{Step, steps, idents}
 use Rattle.lexical.specs.State.{Binding, Found, Event, Named, St}
 use Rattle.lexical.specs.Third.{resolved}
 use Rattle.lexical.specs.Follow.{follow}
-use Rattle.lexical.specs.Records.{errorRow, answerRow, outerError, inFunction}
+use Rattle.lexical.specs.Records.{error_row, answer_row, outer_error, in_function}
 
 -- What is asked of a file: condition 10 gives it.
 -- the scope numbers of the Defs and Lambdas are distinct and not 0
 pub record Scoped (F : File) : Type 0 where
-  pub distinct : Distinct (scopesIn F.root)
-  pub positive : In 0 (scopesIn F.root) → ⊥
+  pub distinct : Distinct (scopes_in F.root)
+  pub positive : In 0 (scopes_in F.root) → ⊥
 
 -- nodes are numbered in node order, parent first, as document 01 has them
 abbrev pub Preorder : Forest → Type 0
-Preorder f = nodesIn f ≡ up_from 0 (length (nodesIn f))
+Preorder f = nodes_in f ≡ up_from 0 (length (nodes_in f))
 
 -- T1, the Idents.
 -- the steps of resolving a file, and its Idents in that order
@@ -44,11 +44,11 @@ unfoldable pub view : Event → ℕ × ℕ × List ℕ × Meaning
 view e = (e.node, e.name, e.scopes, seen e.found)
 
 unfoldable pub told : (ℕ → Outer) → Site → ℕ × ℕ × List ℕ × Meaning
-told out s = (s.node, s.name, scopesOf s.above, meaning out s)
+told out s = (s.node, s.name, scopes_of s.above, meaning out s)
 
 -- n is no name of the module, no global
 abbrev pub NotModule : File → ℕ → Type 0
-NotModule F n = In n (map (λ (v : Var). v.name) (moduleVars F)) → ⊥
+NotModule F n = In n (map (λ (v : Var). v.name) (module_vars F)) → ⊥
 
 abbrev pub NotGlobal : File → ℕ → Type 0
 NotGlobal F n = In n F.globals → ⊥
@@ -61,10 +61,10 @@ source n vs = map_o (λ (v : Var). v.source) (first (λ v. eqb v.name n) vs)
 pub record ModuleBinding (F : File) (n i : ℕ) : Type 0 where
   pub binding : Binding
   pub stands : get_elem? (resolved F).made i ≡ some binding
-  pub called-so : binding.var.name ≡ n
+  pub called_so : binding.var.name ≡ n
   pub numbered : binding.id ≡ i
-  pub of-module : binding.local ≡ false
-  pub sourced : or_else (source n (map entryVar F.entries)) (declares n (collect F.names unmarked F.root)) ≡ some binding.var.source
+  pub of_module_lem : binding.local ≡ false
+  pub sourced : or_else (source n (map entry_var F.entries)) (declares n (collect F.names unmarked F.root)) ≡ some binding.var.source
 
 -- the answer of an Ident that means the local which Name d of scope o declares: its binding, and a slot from which the copies lead to the binding's own
 pub record LocalAnswer (F : File) (s : Site) (o d : ℕ) (answer : List (List ℕ)) : Type 0 where
@@ -74,8 +74,8 @@ pub record LocalAnswer (F : File) (s : Site) (o d : ℕ) (answer : List (List �
   pub owner : binding.owner ≡ o
   pub source : binding.var.source ≡ d
   pub named : binding.var.name ≡ s.name
-  pub is-local : binding.local ≡ true
-  pub home : follow (resolved F).copies (scopesOf s.above) slot ≡ (o, binding.slot)
+  pub is_local : binding.local ≡ true
+  pub home : follow (resolved F).copies (scopes_of s.above) slot ≡ (o, binding.slot)
   pub answered : answer ≡ (s.node ∷ 2 ∷ slot ∷ binding.id ∷ []) ∷ []
 
 -- document 01: "An identifier's outcome is a local or module slot, a global, or one of the two errors"
@@ -88,18 +88,18 @@ Outcome F s (outside missing) answer error = (NotModule F s.name × NotGlobal F 
 
 -- a lookup of the Ident, whose rows are what the meaning says
 pub record Answers (F : File) (s : Site) (e : Event) : Type 0 where
-  pub told-so : view e ≡ told (outerOf F) s
-  pub so : Outcome F s (meaning (outerOf F) s) (answerRow (resolved F).made e.node e.found) (errorRow e.node e.found)
+  pub told_so : view e ≡ told (outer_of F) s
+  pub so : Outcome F s (meaning (outer_of F) s) (answer_row (resolved F).made e.node e.found) (error_row e.node e.found)
 
 -- the errors of some meanings, in order
-unfoldable pub meaningError : ℕ → Meaning → List (List ℕ)
-meaningError at (local d) = []
-meaningError at (refused d) = (at ∷ 2 ∷ []) ∷ []
-meaningError at (outside o) = outerError at o
+unfoldable pub meaning_error : ℕ → Meaning → List (List ℕ)
+meaning_error at (local d) = []
+meaning_error at (refused d) = (at ∷ 2 ∷ []) ∷ []
+meaning_error at (outside o) = outer_error at o
 
-unfoldable pub toldErrors : List (ℕ × ℕ × List ℕ × Meaning) → List (List ℕ)
-toldErrors [] = []
-toldErrors (t ∷ ts) = meaningError t.0 t.3 ++ toldErrors ts
+unfoldable pub told_errors : List (ℕ × ℕ × List ℕ × Meaning) → List (List ℕ)
+told_errors [] = []
+told_errors (t ∷ ts) = meaning_error t.0 t.3 ++ told_errors ts
 
 -- the nodes around node i, innermost first
 unfoldable pub ancestors : Names → ℕ → Forest → Way → ℕ → List Target → Bool → List Around → Option (List Around)
@@ -110,12 +110,12 @@ ancestors N i (node at k v kids rest) w s ts f up =
 
 -- T1, the Names.
 -- the module's Names: an entry of that name, or else the first Name that declares it
-unfoldable pub moduleNames : File → List (ℕ × Option ℕ)
-moduleNames F = map (λ (t : Target). (t.node, or_else (source t.name (map entryVar F.entries)) (declares t.name (collect F.names unmarked F.root)))) (collect F.names unmarked F.root)
+unfoldable pub module_names : File → List (ℕ × Option ℕ)
+module_names F = map (λ (t : Target). (t.node, or_else (source t.name (map entry_var F.entries)) (declares t.name (collect F.names unmarked F.root)))) (collect F.names unmarked F.root)
 
 -- a Name without its binding's number and slot
-unfoldable pub nameView : Named → ℕ × Option ℕ
-nameView x = (x.node, map_o (λ (b : Binding). b.var.source) x.of)
+unfoldable pub name_view : Named → ℕ × Option ℕ
+name_view x = (x.node, map_o (λ (b : Binding). b.var.source) x.of)
 
 -- the Names' bindings are among those made
 abbrev pub Titled : St → List Named → Type 0
@@ -134,12 +134,12 @@ pub record NameRow (F : File) (x : ℕ) : Type 0 where
 -- an Ident that means the local which Name d of scope o declares, from another scope
 pub record Across (o d : ℕ) (s : Site) : Type 0 where
   pub means : declared s.name s.above ≡ some (o, d)
-  pub apart : o ≡ top (scopesOf s.above) → ⊥
+  pub apart : o ≡ top (scopes_of s.above) → ⊥
 
 -- an Ident that means module binding i, from inside a function
 pub record Inside (out : ℕ → Outer) (i : ℕ) (s : Site) : Type 0 where
   pub means : meaning out s ≡ outside (module' i)
-  pub within : inFunction (scopesOf s.above) ≡ true
+  pub within : in_function (scopes_of s.above) ≡ true
 
 -- T2.
 -- what is asked of the local that a lookup found, refused in a type or not; nothing of what is from outside
@@ -153,14 +153,14 @@ pub record Homeward (st : St) (e : Event) (b : Binding) (k : ℕ) : Type 0 where
   pub home : follow st.copies e.scopes k ≡ (b.owner, b.slot)
   pub known : get_elem? st.made b.id ≡ some b
   pub named : b.var.name ≡ e.name
-  pub is-local : b.local ≡ true
+  pub is_local : b.local ≡ true
 
 -- Parameters.
 -- the first variables of a function's block are its Params', as many as `params` counts
 pub record ParamsFirst (N : Names) (k : ℕ) (kids : Forest) : Type 0 where
   pub others : List ℕ
-  pub in-front : map (λ (v : Var). v.name) (merge [] (targets N k kids)) ≡ paramNames kids ++ others
-  pub as_many : length (paramNames kids) ≡ params kids
+  pub in_front : map (λ (v : Var). v.name) (merge [] (targets N k kids)) ≡ param_names kids ++ others
+  pub as_many : length (param_names kids) ≡ params kids
 
 -- Condition 10.
 -- every number from 1 to their count is there

@@ -5,25 +5,25 @@ use Rattle.std.proofs.Math.ListN.{get_elem?}
 use Rattle.lexical.specs.Places.{In}
 use Rattle.lexical.specs.Tree.{top}
 use Rattle.lexical.specs.Module.{File}
-use Rattle.lexical.specs.Meaning.{Site, scopesOf}
+use Rattle.lexical.specs.Meaning.{Site, scopes_of}
 use Rattle.lexical.specs.State.{Binding, Copy}
 use Rattle.lexical.specs.Block.{fresh}
 use Rattle.lexical.specs.Third.{resolved}
-use Rattle.lexical.specs.Follow.{fromIn, follow}
+use Rattle.lexical.specs.Follow.{from_in, follow}
 
 -- following from slot k through the scopes ss stops in one of them, at a slot that no copy fills: it never runs out of scopes
 pub record Stops (cs : List Copy) (ss : List ℕ) (k : ℕ) : Type 0 where
   pub within : In (follow cs ss k).0 ss
-  pub unfilled : fromIn (follow cs ss k).0 (follow cs ss k).1 cs ≡ none
+  pub unfilled : from_in (follow cs ss k).0 (follow cs ss k).1 cs ≡ none
 
 -- an Ident means the local that Name d of scope o declares, refused in a type or not: its binding, and a slot of the Ident's own scope from which the copies lead to the binding's slot
 pub record SlotFor (F : File) (s : Site) (o d : ℕ) : Type 0 where
   pub binding : Binding
   pub slot : ℕ
-  pub of-scope : slot < fresh (top (scopesOf s.above)) (resolved F)
+  pub of_scope_lem : slot < fresh (top (scopes_of s.above)) (resolved F)
   pub known : get_elem? (resolved F).made binding.id ≡ some binding
   pub owner : binding.owner ≡ o
   pub source : binding.var.source ≡ d
   pub named : binding.var.name ≡ s.name
-  pub is-local : binding.local ≡ true
-  pub home : follow (resolved F).copies (scopesOf s.above) slot ≡ (o, binding.slot)
+  pub is_local : binding.local ≡ true
+  pub home : follow (resolved F).copies (scopes_of s.above) slot ≡ (o, binding.slot)

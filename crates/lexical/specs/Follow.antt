@@ -5,35 +5,35 @@ use Rattle.lexical.specs.Lists.{picked, first, map_o}
 use Rattle.lexical.specs.State.{Slot, Copy}
 
 -- the parent slot that is copied into slot k of scope s
-unfoldable pub copyTo : ℕ → ℕ → Copy → Bool
-copyTo s k c = eqb c.scope s && eqb c.child k
+unfoldable pub copy_to : ℕ → ℕ → Copy → Bool
+copy_to s k c = eqb c.scope s && eqb c.child k
 
-unfoldable pub fromIn : ℕ → ℕ → List Copy → Option ℕ
-fromIn s k cs = map_o (λ (c : Copy). c.parent) (first (copyTo s k) cs)
+unfoldable pub from_in : ℕ → ℕ → List Copy → Option ℕ
+from_in s k cs = map_o (λ (c : Copy). c.parent) (first (copy_to s k) cs)
 
 -- the binding whose value slot k of scope s holds
 unfoldable pub slot_at : ℕ → ℕ → Slot → Bool
 slot_at s k r = eqb r.scope s && eqb r.num k
 
-unfoldable pub valueIn : ℕ → ℕ → List Slot → Option ℕ
-valueIn s k rs = map_o (λ (r : Slot). r.id) (first (slot_at s k) rs)
+unfoldable pub value_in : ℕ → ℕ → List Slot → Option ℕ
+value_in s k rs = map_o (λ (r : Slot). r.id) (first (slot_at s k) rs)
 
 -- the bindings copied into scope s
 unfoldable pub copied : ℕ → List Copy → List ℕ
 copied s cs = picked (λ (c : Copy). eqb c.scope s) (λ c. c.id) cs
 
 -- outward from slot k along the copies, through these scopes
-unfoldable pub followBy : Option ℕ → ℕ × ℕ → (ℕ → ℕ × ℕ) → ℕ × ℕ
-followBy none here go = here
-followBy (some p) here go = go p
+unfoldable pub follow_by : Option ℕ → ℕ × ℕ → (ℕ → ℕ × ℕ) → ℕ × ℕ
+follow_by none here go = here
+follow_by (some p) here go = go p
 
 unfoldable pub follow : List Copy → List ℕ → ℕ → ℕ × ℕ
 follow cs [] k = (0, k)
-follow cs (s ∷ ss) k = followBy (fromIn s k cs) (s, k) (λ p. follow cs ss p)
+follow cs (s ∷ ss) k = follow_by (from_in s k cs) (s, k) (λ p. follow cs ss p)
 
 -- the slot of scope s that binding i was copied into
 unfoldable pub copy_of : ℕ → ℕ → Copy → Bool
 copy_of s i c = eqb c.scope s && eqb c.id i
 
-unfoldable pub copyHand : ℕ → ℕ → List Copy → Option ℕ
-copyHand s i cs = map_o (λ (c : Copy). c.child) (first (copy_of s i) cs)
+unfoldable pub copy_hand : ℕ → ℕ → List Copy → Option ℕ
+copy_hand s i cs = map_o (λ (c : Copy). c.child) (first (copy_of s i) cs)

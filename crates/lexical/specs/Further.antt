@@ -2,7 +2,7 @@
 use Rattle.std.specs.Prelude.{◌≡◌, refl, [], ◌∷◌, map, true, false}
 use Rattle.std.proofs.Common.{inl, inr, arith}
 use Rattle.lexical.specs.Places.{In}
-use Rattle.lexical.specs.Tree.{nil, node, scopesIn, listed, when, isFn, way}
+use Rattle.lexical.specs.Tree.{nil, node, scopes_in, listed, when, is_fn, way}
 use Rattle.lexical.specs.Module.{File}
 use Rattle.lexical.specs.Records.{Records, records}
 use Rattle.lexical.specs.Claims.{Scoped}
@@ -13,8 +13,8 @@ unfoldable pub gaps : File
 gaps = file 9 false (record { name = 0; public = false; slot = 4 } ∷ record { name = 1; public = true; slot = 2 } ∷ []) []
     (node 0 2 0 (node 1 8 2 nil (node 2 14 0 nil nil)) nil)
 
-unfoldable pub gapsRecords : Records
-gapsRecords = record {
+unfoldable pub gaps_records : Records
+gaps_records = record {
   bindings = (0 ∷ 65535 ∷ 1 ∷ 0 ∷ 0 ∷ 0 ∷ 0 ∷ 4 ∷ []) ∷ (1 ∷ 65535 ∷ 1 ∷ 1 ∷ 0 ∷ 0 ∷ 0 ∷ 2 ∷ []) ∷ (2 ∷ 1 ∷ 0 ∷ 1 ∷ 0 ∷ 0 ∷ 0 ∷ 2 ∷ []) ∷ [];
   entries = (0 ∷ 0 ∷ 4 ∷ []) ∷ (1 ∷ 1 ∷ 2 ∷ []) ∷ (2 ∷ 1 ∷ 2 ∷ []) ∷ [];
   scopes = (0 ∷ 0 ∷ []) ∷ [];
@@ -30,8 +30,8 @@ unfoldable pub promoted : File
 promoted = file 1 true [] []
     (node 0 0 0 (node 1 7 0 (node 2 8 0 nil (node 3 8 1 nil nil)) (node 4 5 0 (node 5 9 0 nil (node 6 14 0 nil (node 7 2 0 (node 8 8 0 nil (node 9 14 0 nil nil)) nil))) nil)) nil)
 
-unfoldable pub promotedRecords : Records
-promotedRecords = record {
+unfoldable pub promoted_records : Records
+promoted_records = record {
   bindings = (0 ∷ 2 ∷ 0 ∷ 1 ∷ 1 ∷ 0 ∷ 0 ∷ 0 ∷ []) ∷ (1 ∷ 3 ∷ 0 ∷ 0 ∷ 0 ∷ 0 ∷ 0 ∷ 1 ∷ []) ∷ [];
   entries = (0 ∷ 1 ∷ 0 ∷ []) ∷ (1 ∷ 0 ∷ 1 ∷ []) ∷ [];
   scopes = (0 ∷ 0 ∷ []) ∷ [];
@@ -43,12 +43,12 @@ promotedRecords = record {
 }
 
 -- `for x in E: def f(): z=1`: f any, z once
-unfoldable pub defInFor : File
-defInFor = file 9 false [] []
+unfoldable pub def_in_for : File
+def_in_for = file 9 false [] []
     (node 0 5 0 (node 1 8 0 nil (node 2 14 0 nil (node 3 6 1 (node 4 8 1 nil (node 5 2 0 (node 6 8 2 nil (node 7 14 0 nil nil)) nil)) nil))) nil)
 
-unfoldable pub defInForRecords : Records
-defInForRecords = record {
+unfoldable pub def_in_for_records : Records
+def_in_for_records = record {
   bindings = (0 ∷ 1 ∷ 0 ∷ 1 ∷ 1 ∷ 0 ∷ 0 ∷ 0 ∷ []) ∷ (1 ∷ 4 ∷ 0 ∷ 1 ∷ 1 ∷ 0 ∷ 0 ∷ 1 ∷ []) ∷ (2 ∷ 6 ∷ 0 ∷ 1 ∷ 0 ∷ 0 ∷ 1 ∷ 0 ∷ []) ∷ [];
   entries = (0 ∷ 1 ∷ 0 ∷ []) ∷ (1 ∷ 1 ∷ 1 ∷ []) ∷ [];
   scopes = (0 ∷ 0 ∷ []) ∷ (0 ∷ 1 ∷ []) ∷ [];
@@ -60,12 +60,12 @@ defInForRecords = record {
 }
 
 -- `def f(a) -> a: 0`, no other a: the return type lies outside, error 1
-unfoldable pub returnA : File
-returnA = file 9 false [] []
+unfoldable pub return_a : File
+return_a = file 9 false [] []
     (node 0 6 1 (node 1 8 0 nil (node 2 17 0 (node 3 8 1 nil nil) (node 4 18 0 (node 5 11 1 nil nil) (node 6 1 0 (node 7 14 0 nil nil) nil)))) nil)
 
-unfoldable pub returnARecords : Records
-returnARecords = record {
+unfoldable pub return_a_records : Records
+return_a_records = record {
   bindings = (0 ∷ 1 ∷ 0 ∷ 1 ∷ 0 ∷ 0 ∷ 0 ∷ 0 ∷ []) ∷ (1 ∷ 3 ∷ 0 ∷ 1 ∷ 0 ∷ 0 ∷ 1 ∷ 0 ∷ []) ∷ [];
   entries = (0 ∷ 1 ∷ 0 ∷ []) ∷ [];
   scopes = (0 ∷ 0 ∷ []) ∷ (1 ∷ 1 ∷ []) ∷ [];
@@ -77,12 +77,12 @@ returnARecords = record {
 }
 
 -- `def f(t): v: [t for x in t] = lambda: t`, and `w: (lambda: t) = 1`: a Compr and a Lambda in a type are free of its rule
-unfoldable pub freeInType : File
-freeInType = file 9 false [] []
+unfoldable pub free_in_type : File
+free_in_type = file 9 false [] []
     (node 0 6 1 (node 1 8 0 nil (node 2 17 0 (node 3 8 1 nil nil) (node 4 0 0 (node 5 2 0 (node 6 8 2 nil (node 7 18 0 (node 8 13 0 (node 9 15 0 (node 10 8 3 nil (node 11 11 1 nil nil)) (node 12 11 1 nil nil)) nil) (node 13 12 2 (node 14 11 1 nil nil) nil))) (node 15 2 0 (node 16 8 4 nil (node 17 18 0 (node 18 12 3 (node 19 11 1 nil nil) nil) (node 20 14 0 nil nil))) nil)) nil))) nil)
 
-unfoldable pub freeInTypeRecords : Records
-freeInTypeRecords = record {
+unfoldable pub free_in_type_records : Records
+free_in_type_records = record {
   bindings = (0 ∷ 1 ∷ 0 ∷ 1 ∷ 0 ∷ 0 ∷ 0 ∷ 0 ∷ []) ∷ (1 ∷ 3 ∷ 0 ∷ 1 ∷ 0 ∷ 1 ∷ 1 ∷ 0 ∷ []) ∷ (2 ∷ 6 ∷ 0 ∷ 1 ∷ 0 ∷ 0 ∷ 1 ∷ 1 ∷ []) ∷ (4 ∷ 16 ∷ 0 ∷ 1 ∷ 0 ∷ 0 ∷ 1 ∷ 2 ∷ []) ∷ (3 ∷ 10 ∷ 0 ∷ 1 ∷ 1 ∷ 0 ∷ 1 ∷ 3 ∷ []) ∷ [];
   entries = (0 ∷ 1 ∷ 0 ∷ []) ∷ [];
   scopes = (0 ∷ 0 ∷ []) ∷ (1 ∷ 4 ∷ []) ∷ (0 ∷ 1 ∷ []) ∷ (0 ∷ 1 ∷ []) ∷ [];
@@ -98,8 +98,8 @@ unfoldable pub clauses : File
 clauses = file 9 false [] []
     (node 0 1 0 (node 1 13 0 (node 2 15 0 (node 3 10 0 (node 4 11 0 nil (node 5 11 1 nil nil)) (node 6 11 2 nil nil)) (node 7 15 0 (node 8 10 0 (node 9 11 3 nil (node 10 11 4 nil nil)) (node 11 11 5 nil nil)) (node 12 14 0 nil nil))) nil) nil)
 
-unfoldable pub clausesRecords : Records
-clausesRecords = record {
+unfoldable pub clauses_records : Records
+clauses_records = record {
   bindings = [];
   entries = [];
   scopes = (0 ∷ 0 ∷ []) ∷ [];
@@ -115,8 +115,8 @@ unfoldable pub twice : File
 twice = file 9 false [] (0 ∷ [])
     (node 0 0 0 (node 1 1 0 (node 2 13 0 (node 3 15 0 (node 4 8 0 nil (node 5 14 0 nil nil)) (node 6 11 0 nil nil)) nil) (node 7 1 0 (node 8 13 0 (node 9 15 0 (node 10 8 0 nil (node 11 14 0 nil nil)) (node 12 11 0 nil nil)) nil) (node 13 1 0 (node 14 11 0 nil nil) nil))) nil)
 
-unfoldable pub twiceRecords : Records
-twiceRecords = record {
+unfoldable pub twice_records : Records
+twice_records = record {
   bindings = (0 ∷ 4 ∷ 0 ∷ 1 ∷ 1 ∷ 0 ∷ 1 ∷ 0 ∷ []) ∷ (0 ∷ 10 ∷ 0 ∷ 1 ∷ 1 ∷ 0 ∷ 1 ∷ 1 ∷ []) ∷ [];
   entries = [];
   scopes = (0 ∷ 2 ∷ []) ∷ [];
@@ -128,12 +128,12 @@ twiceRecords = record {
 }
 
 -- `x=1`, `y=1`, `y`, `def f(): x` and a global there: x is captured, y is not
-unfoldable pub moduleName : File
-moduleName = file 9 false [] (3 ∷ [])
+unfoldable pub module_name : File
+module_name = file 9 false [] (3 ∷ [])
     (node 0 0 0 (node 1 2 0 (node 2 8 0 nil (node 3 14 0 nil nil)) (node 4 2 0 (node 5 8 1 nil (node 6 14 0 nil nil)) (node 7 1 0 (node 8 11 1 nil nil) (node 9 6 1 (node 10 8 2 nil (node 11 1 0 (node 12 14 0 (node 13 11 0 nil (node 14 11 3 nil nil)) nil) nil)) nil)))) nil)
 
-unfoldable pub moduleNameRecords : Records
-moduleNameRecords = record {
+unfoldable pub module_name_records : Records
+module_name_records = record {
   bindings = (0 ∷ 2 ∷ 0 ∷ 1 ∷ 0 ∷ 1 ∷ 0 ∷ 0 ∷ []) ∷ (1 ∷ 5 ∷ 0 ∷ 1 ∷ 0 ∷ 0 ∷ 0 ∷ 1 ∷ []) ∷ (2 ∷ 10 ∷ 0 ∷ 1 ∷ 0 ∷ 0 ∷ 0 ∷ 2 ∷ []) ∷ [];
   entries = (0 ∷ 1 ∷ 0 ∷ []) ∷ (1 ∷ 1 ∷ 1 ∷ []) ∷ (2 ∷ 1 ∷ 2 ∷ []) ∷ [];
   scopes = (0 ∷ 0 ∷ []) ∷ (0 ∷ 0 ∷ []) ∷ [];
@@ -144,15 +144,15 @@ moduleNameRecords = record {
   errors = [];
 }
 
-pub further : map records (gaps ∷ promoted ∷ defInFor ∷ returnA ∷ freeInType ∷ clauses ∷ twice ∷ moduleName ∷ [])
-    ≡ gapsRecords ∷ promotedRecords ∷ defInForRecords ∷ returnARecords ∷ freeInTypeRecords ∷ clausesRecords ∷ twiceRecords ∷ moduleNameRecords ∷ []
-unfolding records file gaps gapsRecords promoted promotedRecords defInFor defInForRecords returnA returnARecords freeInType freeInTypeRecords clauses clausesRecords twice twiceRecords moduleName moduleNameRecords
+pub further : map records (gaps ∷ promoted ∷ def_in_for ∷ return_a ∷ free_in_type ∷ clauses ∷ twice ∷ module_name ∷ [])
+    ≡ gaps_records ∷ promoted_records ∷ def_in_for_records ∷ return_a_records ∷ free_in_type_records ∷ clauses_records ∷ twice_records ∷ module_name_records ∷ []
+unfolding records file gaps gaps_records promoted promoted_records def_in_for def_in_for_records return_a return_a_records free_in_type free_in_type_records clauses clauses_records twice twice_records module_name module_name_records
 further = refl
 
 -- the theorems' hypothesis holds of such files: of the listing's
-pub listing-scoped : Scoped listing
-unfolding listing file scopesIn listed when isFn way
-listing-scoped = record { distinct = (two, ((λ m. m), tt)); positive = none }
+pub listing_scoped : Scoped listing
+unfolding listing file scopes_in listed when is_fn way
+listing_scoped = record { distinct = (two, ((λ m. m), tt)); positive = none }
   where
     two : In 1 (2 ∷ []) → ⊥
     two (inl e) = omega arith

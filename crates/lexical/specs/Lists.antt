@@ -37,8 +37,8 @@ pub true-T : (b : Bool) → T b → b ≡ true
 true-T true t = refl
 true-T false t = absurd t
 
-pub eqb-self : (n : ℕ) → eqb n n ≡ true
-eqb-self n = true-T (eqb n n) (eqb_refl n)
+pub eqb_self : (n : ℕ) → eqb n n ≡ true
+eqb_self n = true-T (eqb n n) (eqb_refl n)
 
 pub eqb-true : (m n : ℕ) → eqb m n ≡ true → m ≡ n
 eqb-true m n e = eqb→eq m n (T_true e)
@@ -60,40 +60,40 @@ pub opened : {A : Type 0} (o : Option A) → Opened o
 opened none = absent refl
 opened (some a) = present a refl
 
-pub orElse-none : {A : Type 0} (x : Option A) → or_else x none ≡ x
+pub or_else_none : {A : Type 0} (x : Option A) → or_else x none ≡ x
 unfolding or_else
-orElse-none none = refl
-orElse-none (some x) = refl
+or_else_none none = refl
+or_else_none (some x) = refl
 
-pub orElse-assoc : {A : Type 0} (x y z : Option A) → or_else (or_else x y) z ≡ or_else x (or_else y z)
+pub or_else_assoc : {A : Type 0} (x y z : Option A) → or_else (or_else x y) z ≡ or_else x (or_else y z)
 unfolding or_else
-orElse-assoc none y z = refl
-orElse-assoc (some x) y z = refl
+or_else_assoc none y z = refl
+or_else_assoc (some x) y z = refl
 
-pub mapO-orElse : {A B : Type 0} (f : A → B) (x y : Option A) → map_o f (or_else x y) ≡ or_else (map_o f x) (map_o f y)
+pub map_o_or_else : {A B : Type 0} (f : A → B) (x y : Option A) → map_o f (or_else x y) ≡ or_else (map_o f x) (map_o f y)
 unfolding map_o or_else
-mapO-orElse f none y = refl
-mapO-orElse f (some x) y = refl
+map_o_or_else f none y = refl
+map_o_or_else f (some x) y = refl
 
-pub mapO-cond : {A B : Type 0} (f : A → B) (b : Bool) (x : A) (y : Option A) → map_o f (cond b (some x) y) ≡ cond b (some (f x)) (map_o f y)
+pub map_o_cond : {A B : Type 0} (f : A → B) (b : Bool) (x : A) (y : Option A) → map_o f (cond b (some x) y) ≡ cond b (some (f x)) (map_o f y)
 unfolding map_o
-mapO-cond f true x y = refl
-mapO-cond f false x y = refl
+map_o_cond f true x y = refl
+map_o_cond f false x y = refl
 
-pub orElse-cond : {A : Type 0} (b : Bool) (x : A) (y z : Option A) → or_else (cond b (some x) y) z ≡ cond b (some x) (or_else y z)
+pub or_else_cond : {A : Type 0} (b : Bool) (x : A) (y z : Option A) → or_else (cond b (some x) y) z ≡ cond b (some x) (or_else y z)
 unfolding or_else
-orElse-cond true x y z = refl
-orElse-cond false x y z = refl
+or_else_cond true x y z = refl
+or_else_cond false x y z = refl
 
-pub first-append : {A : Type 0} (p : A → Bool) (xs ys : List A) → first p (xs ++ ys) ≡ or_else (first p xs) (first p ys)
+pub first_append : {A : Type 0} (p : A → Bool) (xs ys : List A) → first p (xs ++ ys) ≡ or_else (first p xs) (first p ys)
 unfolding first or_else
-first-append p [] ys = refl
-first-append p (x ∷ xs) ys = ap (cond (p x) (some x)) (first-append p xs ys) ∙ sym (orElse-cond (p x) x (first p xs) (first p ys))
+first_append p [] ys = refl
+first_append p (x ∷ xs) ys = ap (cond (p x) (some x)) (first_append p xs ys) ∙ sym (or_else_cond (p x) x (first p xs) (first p ys))
 
-pub count-snoc : {A : Type 0} (p : A → Bool) (xs : List A) (y : A) → count p (xs ++ (y ∷ [])) ≡ cond (p y) (suc (count p xs)) (count p xs)
+pub count_snoc : {A : Type 0} (p : A → Bool) (xs : List A) (y : A) → count p (xs ++ (y ∷ [])) ≡ cond (p y) (suc (count p xs)) (count p xs)
 unfolding count
-count-snoc p [] y = refl
-count-snoc p (x ∷ xs) y = go (p x) (p y) _ _ (count-snoc p xs y)
+count_snoc p [] y = refl
+count_snoc p (x ∷ xs) y = go (p x) (p y) _ _ (count_snoc p xs y)
   where
     go : (b c : Bool) (m n : ℕ) → m ≡ cond c (suc n) n → cond b (suc m) m ≡ cond c (suc (cond b (suc n) n)) (cond b (suc n) n)
     go true true m n e = ap suc e
@@ -111,16 +111,16 @@ abbrev pub If : Bool → Type 0 → Type 0
 If true P = P
 If false P = Unit {0}
 
-pub if-map : {P Q : Type 0} (b : Bool) → (P → Q) → If b P → If b Q
-if-map true h p = h p
-if-map false h p = tt
+pub if_map : {P Q : Type 0} (b : Bool) → (P → Q) → If b P → If b Q
+if_map true h p = h p
+if_map false h p = tt
 
-pub if-both : (P Q : Type 0) (b : Bool) → If b P → If b Q → If b (P × Q)
-if-both P Q true p q = (p, q)
-if-both P Q false p q = tt
+pub if_both : (P Q : Type 0) (b : Bool) → If b P → If b Q → If b (P × Q)
+if_both P Q true p q = (p, q)
+if_both P Q false p q = tt
 
 pub eqb-false : (m n : ℕ) → eqb m n ≡ false → m ≡ n → ⊥
-eqb-false m n e q = let z : eqb m m ≡ false = rw (← q) at e in let y : ◌≡◌ {A = ℕ} 0 1 = cc (eqb-self m) in omega arith
+eqb-false m n e q = let z : eqb m m ≡ false = rw (← q) at e in let y : ◌≡◌ {A = ℕ} 0 1 = cc (eqb_self m) in omega arith
 
 pub eqb-not : (m n : ℕ) → (m ≡ n → ⊥) → eqb m n ≡ false
 eqb-not m n h = go (tested (eqb m n))
@@ -132,17 +132,17 @@ eqb-not m n h = go (tested (eqb m n))
 pub none-some : {A : Type 0} {a : A} {o : Option A} → o ≡ none → o ≡ some a → ⊥
 none-some p q = let y : ◌≡◌ {A = ℕ} 0 1 = cc in omega arith
 
-pub first-old : {A : Type 0} (p : A → Bool) (xs ys : List A) (a : A) → first p xs ≡ some a → first p (xs ++ ys) ≡ some a
+pub first_old : {A : Type 0} (p : A → Bool) (xs ys : List A) (a : A) → first p xs ≡ some a → first p (xs ++ ys) ≡ some a
 unfolding or_else
-first-old p xs ys a e = first-append p xs ys ∙ (rw e refl)
+first_old p xs ys a e = first_append p xs ys ∙ (rw e refl)
 
-pub first-here : {A : Type 0} (p : A → Bool) (xs : List A) (a : A) → first p xs ≡ none → p a ≡ true → first p (xs ++ (a ∷ [])) ≡ some a
+pub first_here : {A : Type 0} (p : A → Bool) (xs : List A) (a : A) → first p xs ≡ none → p a ≡ true → first p (xs ++ (a ∷ [])) ≡ some a
 unfolding or_else first
-first-here p xs a e t = first-append p xs (a ∷ []) ∙ (rw (e, t) refl)
+first_here p xs a e t = first_append p xs (a ∷ []) ∙ (rw (e, t) refl)
 
-pub first-other : {A : Type 0} (p : A → Bool) (xs : List A) (a : A) → p a ≡ false → first p (xs ++ (a ∷ [])) ≡ first p xs
+pub first_other : {A : Type 0} (p : A → Bool) (xs : List A) (a : A) → p a ≡ false → first p (xs ++ (a ∷ [])) ≡ first p xs
 unfolding first
-first-other p xs a t = first-append p xs (a ∷ []) ∙ (rw t (orElse-none _))
+first_other p xs a t = first_append p xs (a ∷ []) ∙ (rw t (or_else_none _))
 
 pub picked-length : {A B : Type 0} (p : A → Bool) (f : A → B) (xs : List A) → length (picked p f xs) ≡ count p xs
 unfolding picked count
@@ -153,10 +153,10 @@ picked-length p f (x ∷ xs) = go (p x) (picked-length p f xs)
     go true e = ap suc e
     go false e = e
 
-pub picked-snoc : {A B : Type 0} (p : A → Bool) (f : A → B) (xs : List A) (y : A) → picked p f (xs ++ (y ∷ [])) ≡ picked p f xs ++ cond (p y) (f y ∷ []) []
+pub picked_snoc : {A B : Type 0} (p : A → Bool) (f : A → B) (xs : List A) (y : A) → picked p f (xs ++ (y ∷ [])) ≡ picked p f xs ++ cond (p y) (f y ∷ []) []
 unfolding picked
-picked-snoc p f [] y = refl
-picked-snoc p f (x ∷ xs) y = go (p x) (picked-snoc p f xs y)
+picked_snoc p f [] y = refl
+picked_snoc p f (x ∷ xs) y = go (p x) (picked_snoc p f xs y)
   where
     go : (b : Bool) → picked p f (xs ++ (y ∷ [])) ≡ picked p f xs ++ cond (p y) (f y ∷ []) [] → cond b (f x ∷ picked p f (xs ++ (y ∷ []))) (picked p f (xs ++ (y ∷ []))) ≡ cond b (f x ∷ picked p f xs) (picked p f xs) ++ cond (p y) (f y ∷ []) []
     go true e = ap (λ l. f x ∷ l) e

@@ -20,12 +20,12 @@ pub record File : Type 0 where
   pub root : Forest
 
 -- an entry's variable: from the module, at most once so far
-unfoldable pub entryVar : Entry → Var
-entryVar e = record { name = e.name; source = 65535; entry = true; public = e.public; any = false }
+unfoldable pub entry_var : Entry → Var
+entry_var e = record { name = e.name; source = 65535; entry = true; public = e.public; any = false }
 
 -- the module's variables: the entries in order, then what the root binds
-unfoldable pub moduleVars : File → List Var
-moduleVars F = merge (map entryVar F.entries) (collect F.names unmarked F.root)
+unfoldable pub module_vars : File → List Var
+module_vars F = merge (map entry_var F.entries) (collect F.names unmarked F.root)
 
 -- what stands outside all functions and comprehensions: a module binding's number, a global's number
 pub data Outer : Type 0 where
@@ -46,5 +46,5 @@ unfoldable pub outer : List ℕ → List ℕ → ℕ → Outer
 outer mods globals n = beyond (place n mods) (place n globals)
 
 -- of a file
-unfoldable pub outerOf : File → ℕ → Outer
-outerOf F = outer (map (λ (v : Var). v.name) (moduleVars F)) F.globals
+unfoldable pub outer_of : File → ℕ → Outer
+outer_of F = outer (map (λ (v : Var). v.name) (module_vars F)) F.globals

@@ -5,14 +5,14 @@ use Rattle.std.proofs.Math.Option.{Option, none, some}
 use Rattle.std.proofs.Math.ListN.{get_elem?}
 use Rattle.lexical.specs.Lists.{first, map_o, none-some, Tested, was, wasnt, tested, Opened, absent, present, opened}
 
-pub at-append : {A : Type 0} (xs ys : List A) (i : ℕ) (a : A) → get_elem? xs i ≡ some a → get_elem? (xs ++ ys) i ≡ some a
-at-append [] ys i a e = absurd (let z : ◌≡◌ {A = ℕ} 0 1 = cc in omega arith)
-at-append (x ∷ xs) ys zero a e = e
-at-append (x ∷ xs) ys (suc i) a e = at-append xs ys i a e
+pub at_append : {A : Type 0} (xs ys : List A) (i : ℕ) (a : A) → get_elem? xs i ≡ some a → get_elem? (xs ++ ys) i ≡ some a
+at_append [] ys i a e = absurd (let z : ◌≡◌ {A = ℕ} 0 1 = cc in omega arith)
+at_append (x ∷ xs) ys zero a e = e
+at_append (x ∷ xs) ys (suc i) a e = at_append xs ys i a e
 
-pub at-end : {A : Type 0} (xs : List A) (a : A) → get_elem? (xs ++ (a ∷ [])) (length xs) ≡ some a
-at-end [] a = refl
-at-end (x ∷ xs) a = at-end xs a
+pub at_end : {A : Type 0} (xs : List A) (a : A) → get_elem? (xs ++ (a ∷ [])) (length xs) ≡ some a
+at_end [] a = refl
+at_end (x ∷ xs) a = at_end xs a
 
 pub at-below : {A : Type 0} (xs : List A) (i : ℕ) (a : A) → get_elem? xs i ≡ some a → i < length xs
 at-below [] i a e = absurd (let z : ◌≡◌ {A = ℕ} 0 1 = cc in omega arith)
@@ -36,14 +36,14 @@ at_snoc (x ∷ xs) y (suc i) a e = go (at_snoc xs y i a e)
     go (inr q) = inr (ap suc q.0, q.1)
 
 -- an element of two lists, one behind the other
-pub at-either : {A : Type 0} (xs ys : List A) (i : ℕ) (a : A) → get_elem? (xs ++ ys) i ≡ some a → (get_elem? xs i ≡ some a) ⊎ ((k : ℕ) × (get_elem? ys k ≡ some a))
-at-either [] ys i a e = inr (i, e)
-at-either (x ∷ xs) ys zero a e = inl e
-at-either (x ∷ xs) ys (suc i) a e = at-either xs ys i a e
+pub at_either : {A : Type 0} (xs ys : List A) (i : ℕ) (a : A) → get_elem? (xs ++ ys) i ≡ some a → (get_elem? xs i ≡ some a) ⊎ ((k : ℕ) × (get_elem? ys k ≡ some a))
+at_either [] ys i a e = inr (i, e)
+at_either (x ∷ xs) ys zero a e = inl e
+at_either (x ∷ xs) ys (suc i) a e = at_either xs ys i a e
 
-pub at-behind : {A : Type 0} (xs ys : List A) (k : ℕ) → get_elem? (xs ++ ys) (length xs + k) ≡ get_elem? ys k
-at-behind [] ys k = let e : 0 + k ≡ k = omega arith in ap (get_elem? ys) e
-at-behind (x ∷ xs) ys k = let e : suc (length xs) + k ≡ suc (length xs + k) = omega arith in ap (get_elem? (x ∷ (xs ++ ys))) e ∙ at-behind xs ys k
+pub at_behind : {A : Type 0} (xs ys : List A) (k : ℕ) → get_elem? (xs ++ ys) (length xs + k) ≡ get_elem? ys k
+at_behind [] ys k = let e : 0 + k ≡ k = omega arith in ap (get_elem? ys) e
+at_behind (x ∷ xs) ys k = let e : suc (length xs) + k ≡ suc (length xs + k) = omega arith in ap (get_elem? (x ∷ (xs ++ ys))) e ∙ at_behind xs ys k
 
 -- what holds of every element, of some element
 abbrev pub All : {A : Type 0} → (A → Type 0) → List A → Type 0
@@ -70,18 +70,18 @@ pub all_map : {A B : Type 0} (P : B → Type 0) (f : A → B) (xs : List A) → 
 all_map P f [] h = all_none P
 all_map P f (x ∷ xs) h = all_cons P (f x) (map f xs) (h zero x refl) (all_map P f xs (λ j y e. h (suc j) y e))
 
-pub all-to : {A : Type 0} (P Q : A → Type 0) (xs : List A) → ((a : A) → P a → Q a) → All P xs → All Q xs
-all-to P Q xs h p j x e = h x (p j x e)
+pub all_to : {A : Type 0} (P Q : A → Type 0) (xs : List A) → ((a : A) → P a → Q a) → All P xs → All Q xs
+all_to P Q xs h p j x e = h x (p j x e)
 
 pub some_left : {A : Type 0} (P : A → Type 0) (xs ys : List A) → Some P xs → Some P (xs ++ ys)
-some_left P xs ys (j, x, e, p) = (j, x, at-append xs ys j x e, p)
+some_left P xs ys (j, x, e, p) = (j, x, at_append xs ys j x e, p)
 
 pub some_right : {A : Type 0} (P : A → Type 0) (xs ys : List A) → Some P ys → Some P (xs ++ ys)
 some_right P [] ys h = h
 some_right P (x ∷ xs) ys h = let r = some_right P xs ys h in (suc r.0, r.1, r.2, r.3)
 
 pub some_end : {A : Type 0} (P : A → Type 0) (xs : List A) (y : A) → P y → Some P (xs ++ (y ∷ []))
-some_end P xs y p = (length xs, y, at-end xs y, p)
+some_end P xs y p = (length xs, y, at_end xs y, p)
 
 pub map_at : {A B : Type 0} (f : A → B) (xs : List A) (j : ℕ) (x : A) → get_elem? xs j ≡ some x → get_elem? (map f xs) j ≡ some (f x)
 map_at f [] j x e = absurd (none-some refl e)
@@ -111,26 +111,26 @@ first-at p (x ∷ xs) a e = go (tested (p x)) e (λ z. first-at p xs a z)
     go (wasnt t) z rec = let r = rec (rw t at z) in (suc r.0, r.1, r.2)
 
 -- none passes it, if each that passed would be refuted
-pub first-no : {A : Type 0} (p : A → Bool) (xs : List A) → ((j : ℕ) (a : A) → get_elem? xs j ≡ some a → p a ≡ true → ⊥) → first p xs ≡ none
-first-no p xs h = go (opened (first p xs))
+pub first_no : {A : Type 0} (p : A → Bool) (xs : List A) → ((j : ℕ) (a : A) → get_elem? xs j ≡ some a → p a ≡ true → ⊥) → first p xs ≡ none
+first_no p xs h = go (opened (first p xs))
   where
     go : Opened (first p xs) → first p xs ≡ none
     go (absent e) = e
     go (present a e) = let r = first-at p xs a e in absurd (h r.0 a r.1 r.2)
 
-pub mapO-none : {A B : Type 0} (f : A → B) (o : Option A) → o ≡ none → map_o f o ≡ none
+pub map_o_none : {A B : Type 0} (f : A → B) (o : Option A) → o ≡ none → map_o f o ≡ none
 unfolding map_o
-mapO-none f o e = rw e refl
+map_o_none f o e = rw e refl
 
-pub mapO-some : {A B : Type 0} (f : A → B) (o : Option A) (b : B) → map_o f o ≡ some b → (a : A) × (o ≡ some a) × (f a ≡ b)
+pub map_o_some : {A B : Type 0} (f : A → B) (o : Option A) (b : B) → map_o f o ≡ some b → (a : A) × (o ≡ some a) × (f a ≡ b)
 unfolding map_o
-mapO-some f none b e = absurd (none-some refl e)
-mapO-some f (some a) b e = (a, refl, (let z : f a ≡ b = cc in z))
+map_o_some f none b e = absurd (none-some refl e)
+map_o_some f (some a) b e = (a, refl, (let z : f a ≡ b = cc in z))
 
-pub first-has : {A : Type 0} (p : A → Bool) (xs : List A) (j : ℕ) (a : A) → get_elem? xs j ≡ some a → p a ≡ true → first p xs ≡ none → ⊥
+pub first_has : {A : Type 0} (p : A → Bool) (xs : List A) (j : ℕ) (a : A) → get_elem? xs j ≡ some a → p a ≡ true → first p xs ≡ none → ⊥
 unfolding first
-first-has p [] j a e t n = none-some refl e
-first-has p (x ∷ xs) j a e t n = go (tested (p x)) j e n (λ i z m. first-has p xs i a z t m)
+first_has p [] j a e t n = none-some refl e
+first_has p (x ∷ xs) j a e t n = go (tested (p x)) j e n (λ i z m. first_has p xs i a z t m)
   where
     go : Tested (p x) → (j : ℕ) → get_elem? (x ∷ xs) j ≡ some a → cond (p x) (some x) (first p xs) ≡ none → ((i : ℕ) → get_elem? xs i ≡ some a → first p xs ≡ none → ⊥) → ⊥
     go (was q) j z m rec = none-some {a = x} {o = cond (p x) (some x) (first p xs)} m (rw q refl)
@@ -151,10 +151,10 @@ at_in [] k x e = absurd (none-some refl e)
 at_in (y ∷ xs) zero x e = let z : y ≡ x = cc in inl (sym z)
 at_in (y ∷ xs) (suc k) x e = inr (at_in xs k x e)
 
-pub in-snoc : (x y : ℕ) (xs : List ℕ) → In x (xs ++ (y ∷ [])) → In x xs ⊎ (x ≡ y)
-in-snoc x y [] (inl e) = inr e
-in-snoc x y (z ∷ xs) (inl e) = inl (inl e)
-in-snoc x y (z ∷ xs) (inr h) = go (in-snoc x y xs h)
+pub in_snoc : (x y : ℕ) (xs : List ℕ) → In x (xs ++ (y ∷ [])) → In x xs ⊎ (x ≡ y)
+in_snoc x y [] (inl e) = inr e
+in_snoc x y (z ∷ xs) (inl e) = inl (inl e)
+in_snoc x y (z ∷ xs) (inr h) = go (in_snoc x y xs h)
   where
     go : In x xs ⊎ (x ≡ y) → ((x ≡ z) ⊎ In x xs) ⊎ (x ≡ y)
     go (inl m) = inl (inr m)
@@ -162,7 +162,7 @@ in-snoc x y (z ∷ xs) (inr h) = go (in-snoc x y xs h)
 
 pub distinct_snoc : (x : ℕ) (xs : List ℕ) → Distinct xs → (In x xs → ⊥) → Distinct (xs ++ (x ∷ []))
 distinct_snoc x [] d n = ((λ h. h), tt)
-distinct_snoc x (y ∷ ys) d n = ((λ h. go (in-snoc y x ys h)), distinct_snoc x ys d.1 (λ h. n (inr h)))
+distinct_snoc x (y ∷ ys) d n = ((λ h. go (in_snoc y x ys h)), distinct_snoc x ys d.1 (λ h. n (inr h)))
   where
     go : In y ys ⊎ (y ≡ x) → ⊥
     go (inl m) = d.0 m
@@ -176,13 +176,13 @@ pub in_right : (t : ℕ) (xs ys : List ℕ) → In t ys → In t (xs ++ ys)
 in_right t [] ys m = m
 in_right t (x ∷ xs) ys m = inr (in_right t xs ys m)
 
-pub distinct-right : (xs ys : List ℕ) → Distinct (xs ++ ys) → Distinct ys
-distinct-right [] ys d = d
-distinct-right (x ∷ xs) ys d = distinct-right xs ys d.1
+pub distinct_right : (xs ys : List ℕ) → Distinct (xs ++ ys) → Distinct ys
+distinct_right [] ys d = d
+distinct_right (x ∷ xs) ys d = distinct_right xs ys d.1
 
-pub distinct-left : (xs ys : List ℕ) → Distinct (xs ++ ys) → Distinct xs
-distinct-left [] ys d = tt
-distinct-left (x ∷ xs) ys d = ((λ m. d.0 (in_left x xs ys m)), distinct-left xs ys d.1)
+pub distinct_left : (xs ys : List ℕ) → Distinct (xs ++ ys) → Distinct xs
+distinct_left [] ys d = tt
+distinct_left (x ∷ xs) ys d = ((λ m. d.0 (in_left x xs ys m)), distinct_left xs ys d.1)
 
 pub disjoint : (t : ℕ) (xs ys : List ℕ) → Distinct (xs ++ ys) → In t xs → In t ys → ⊥
 disjoint t (x ∷ xs) ys d (inl e) m = d.0 (in_right x xs ys (rw (← e) m))
@@ -193,13 +193,13 @@ unfoldable pub up_from : ℕ → ℕ → List ℕ
 up_from n zero = []
 up_from n (suc k) = n ∷ up_from (suc n) k
 
-up-from : (t n k : ℕ) → In t (up_from n k) → n ≤ t
+up_from_lem : (t n k : ℕ) → In t (up_from n k) → n ≤ t
 unfolding up_from
-up-from t n (suc k) (inl e) = omega arith
-up-from t n (suc k) (inr m) = omega (arith, up-from t (suc n) k m)
-up-from t n zero m = absurd m
+up_from_lem t n (suc k) (inl e) = omega arith
+up_from_lem t n (suc k) (inr m) = omega (arith, up_from_lem t (suc n) k m)
+up_from_lem t n zero m = absurd m
 
-pub upFrom-distinct : (n k : ℕ) → Distinct (up_from n k)
+pub up_from_distinct : (n k : ℕ) → Distinct (up_from n k)
 unfolding up_from
-upFrom-distinct n zero = tt
-upFrom-distinct n (suc k) = ((λ m. omega (arith, up-from n (suc n) k m)), upFrom-distinct (suc n) k)
+up_from_distinct n zero = tt
+up_from_distinct n (suc k) = ((λ m. omega (arith, up_from_lem n (suc n) k m)), up_from_distinct (suc n) k)

@@ -3,12 +3,12 @@ use Rattle.std.specs.Prelude.{◌≡◌, ◌⊎◌, List, [], ◌∷◌, ℕ, eq
 use Rattle.std.proofs.Math.Option.{Option, none, some}
 use Rattle.lexical.specs.Lists.{picked, count}
 use Rattle.lexical.specs.State.{Binding, Found, St, Copy}
-use Rattle.lexical.specs.Follow.{valueIn}
+use Rattle.lexical.specs.Follow.{value_in}
 use Rattle.lexical.specs.Claims.{OfLocal}
 
 -- how many copies there are into scope t
-abbrev pub copiesInto : ℕ → List Copy → ℕ
-copiesInto t cs = count (λ (c : Copy). eqb c.scope t) cs
+abbrev pub copies_into : ℕ → List Copy → ℕ
+copies_into t cs = count (λ (c : Copy). eqb c.scope t) cs
 
 -- any scheme: for each scope its copies, from a slot of the scope directly around to a slot; each slot holds one binding's value
 pub record Scheme : Type 0 where
@@ -37,4 +37,4 @@ or_zero none = 0
 or_zero (some i) = i
 
 unfoldable pub ours : St → Scheme
-ours st = record { copies = λ s. pairs s st.copies; value = λ s k. or_zero (valueIn s k st.slots) }
+ours st = record { copies = λ s. pairs s st.copies; value = λ s k. or_zero (value_in s k st.slots) }

@@ -13,20 +13,20 @@ one x n = cond (eqb x n) 1 0
 abbrev pub times : ℕ → List ℕ → ℕ
 times x l = total (one x) l
 
-pub total-append : {A : Type 0} (g : A → ℕ) (xs ys : List A) → total g (xs ++ ys) ≡ total g xs + total g ys
+pub total_append : {A : Type 0} (g : A → ℕ) (xs ys : List A) → total g (xs ++ ys) ≡ total g xs + total g ys
 unfolding total
-total-append g [] ys = omega arith
-total-append g (x ∷ xs) ys = omega (arith, total-append g xs ys)
+total_append g [] ys = omega arith
+total_append g (x ∷ xs) ys = omega (arith, total_append g xs ys)
 
-pub total-ones : {A : Type 0} (xs : List A) → total (λ x. 1) xs ≡ length xs
+pub total_ones : {A : Type 0} (xs : List A) → total (λ x. 1) xs ≡ length xs
 unfolding total
-total-ones [] = refl
-total-ones (x ∷ xs) = omega (arith, total-ones xs)
+total_ones [] = refl
+total_ones (x ∷ xs) = omega (arith, total_ones xs)
 
-pub total-zeros : {A : Type 0} (xs : List A) → total (λ x. 0) xs ≡ 0
+pub total_zeros : {A : Type 0} (xs : List A) → total (λ x. 0) xs ≡ 0
 unfolding total
-total-zeros [] = refl
-total-zeros (x ∷ xs) = omega (arith, total-zeros xs)
+total_zeros [] = refl
+total_zeros (x ∷ xs) = omega (arith, total_zeros xs)
 
 pub total-map : {A B : Type 0} (u : B → ℕ) (f : A → B) (xs : List A) → total u (map f xs) ≡ total (λ x. u (f x)) xs
 unfolding total

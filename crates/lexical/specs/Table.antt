@@ -33,17 +33,17 @@ row k = get_or (
 unfoldable pub within : ℕ → ℕ → ℕ → Bool
 within lo hi k = leb lo k && leb k hi
 
-unfoldable pub headIn : ℕ → ℕ → List ℕ → Bool
-headIn lo hi [] = false
-headIn lo hi (k ∷ ks) = within lo hi k
+unfoldable pub head_in : ℕ → ℕ → List ℕ → Bool
+head_in lo hi [] = false
+head_in lo hi (k ∷ ks) = within lo hi k
 
-unfoldable pub dropOne : ℕ → ℕ → List ℕ → List ℕ
-dropOne lo hi [] = []
-dropOne lo hi (k ∷ ks) = cond (within lo hi k) ks (k ∷ ks)
+unfoldable pub drop_one : ℕ → ℕ → List ℕ → List ℕ
+drop_one lo hi [] = []
+drop_one lo hi (k ∷ ks) = cond (within lo hi k) ks (k ∷ ks)
 
-unfoldable pub dropMany : ℕ → ℕ → List ℕ → List ℕ
-dropMany lo hi [] = []
-dropMany lo hi (k ∷ ks) = cond (within lo hi k) (dropMany lo hi ks) (k ∷ ks)
+unfoldable pub drop_many : ℕ → ℕ → List ℕ → List ℕ
+drop_many lo hi [] = []
+drop_many lo hi (k ∷ ks) = cond (within lo hi k) (drop_many lo hi ks) (k ∷ ks)
 
 unfoldable pub is_empty : List ℕ → Bool
 is_empty [] = true
@@ -52,9 +52,9 @@ is_empty (k ∷ ks) = false
 -- the kinds ks of the children are as a row says
 unfoldable pub matches : List Item → List ℕ → Bool
 matches [] ks = is_empty ks
-matches (one lo hi ∷ is) ks = headIn lo hi ks && matches is (dropOne lo hi ks)
-matches (opt lo hi ∷ is) ks = matches is (dropOne lo hi ks)
-matches (many lo hi ∷ is) ks = matches is (dropMany lo hi ks)
+matches (one lo hi ∷ is) ks = head_in lo hi ks && matches is (drop_one lo hi ks)
+matches (opt lo hi ∷ is) ks = matches is (drop_one lo hi ks)
+matches (many lo hi ∷ is) ks = matches is (drop_many lo hi ks)
 
 -- a Param may have no children
 unfoldable pub allowed : ℕ → List ℕ → Bool
@@ -69,13 +69,13 @@ Tabled nil = Unit {0}
 Tabled (node at k v kids rest) = (k ≤ 18) × (allowed k (kinds kids) ≡ true) × Tabled kids × Tabled rest
 
 -- the names of a function's Params, in order; condition 11 is that no two are alike
-unfoldable pub ownName : Forest → List ℕ
-ownName nil = []
-ownName (node at k n kids rest) = n ∷ []
+unfoldable pub own_name : Forest → List ℕ
+own_name nil = []
+own_name (node at k n kids rest) = n ∷ []
 
-unfoldable pub paramNames : Forest → List ℕ
-paramNames nil = []
-paramNames (node at k v kids rest) = cond (eqb k 17) (ownName kids) [] ++ paramNames rest
+unfoldable pub param_names : Forest → List ℕ
+param_names nil = []
+param_names (node at k v kids rest) = cond (eqb k 17) (own_name kids) [] ++ param_names rest
 
 -- what the bounds by Names use of the table: a Def's first child is a Name
 unfoldable pub FirstName : Forest → Type 0

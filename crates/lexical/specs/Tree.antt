@@ -31,46 +31,46 @@ way k = get_or (
     ∷ clause ∷ plain ∷ plain ∷ type ∷ []  -- ForClause, IfClause, Param, Type
     ) k plain
 
-unfoldable pub isLook : Way → Bool
-isLook plain = false
-isLook look = true
-isLook fn = false
-isLook compr = false
-isLook clause = false
-isLook type = false
+unfoldable pub is_look : Way → Bool
+is_look plain = false
+is_look look = true
+is_look fn = false
+is_look compr = false
+is_look clause = false
+is_look type = false
 
-unfoldable pub isFn : Way → Bool
-isFn plain = false
-isFn look = false
-isFn fn = true
-isFn compr = false
-isFn clause = false
-isFn type = false
+unfoldable pub is_fn : Way → Bool
+is_fn plain = false
+is_fn look = false
+is_fn fn = true
+is_fn compr = false
+is_fn clause = false
+is_fn type = false
 
-unfoldable pub isCompr : Way → Bool
-isCompr plain = false
-isCompr look = false
-isCompr fn = false
-isCompr compr = true
-isCompr clause = false
-isCompr type = false
+unfoldable pub is_compr : Way → Bool
+is_compr plain = false
+is_compr look = false
+is_compr fn = false
+is_compr compr = true
+is_compr clause = false
+is_compr type = false
 
 -- when a child has its turn among its siblings, by the parent's way and whether it is the first child, the last:
 -- in node order; as the body, inside its function; as the first clause, before its comprehension's variables are bound;
 -- as the target of a ForClause, after the expression behind it
 pub data Turn : Type 0 where
-  inOrder inside opening behind : Turn
+  in_order inside opening behind : Turn
 
 unfoldable pub turn : Way → Bool → Bool → Turn
-turn plain f l = inOrder
-turn look f l = inOrder
+turn plain f l = in_order
+turn look f l = in_order
 turn fn f true = inside
-turn fn f false = inOrder
+turn fn f false = in_order
 turn compr true l = opening
-turn compr false l = inOrder
+turn compr false l = in_order
 turn clause true l = behind
-turn clause false l = inOrder
-turn type f l = inOrder
+turn clause false l = in_order
+turn type f l = in_order
 
 -- how a kind is collected: a Name binds; of a Def its name alone; For, Load and Param mark the targets in them; expressions and Types have none
 pub data Pick : Type 0 where
@@ -83,14 +83,14 @@ pick k = get_or (
     ∷ through ∷ through ∷ param ∷ shut ∷ []  -- ForClause, IfClause, Param, Type
     ) k shut
 
-unfoldable pub isName : Pick → Bool
-isName through = false
-isName shut = false
-isName head = false
-isName name = true
-isName loop = false
-isName load = false
-isName param = false
+unfoldable pub is_name : Pick → Bool
+is_name through = false
+is_name shut = false
+is_name head = false
+is_name name = true
+is_name loop = false
+is_name load = false
+is_name param = false
 
 -- one, where a test holds
 unfoldable pub when : {A : Type 0} → Bool → A → List A
@@ -102,18 +102,18 @@ unfoldable pub listed : {A : Type 0} → (ℕ → Bool) → (ℕ → ℕ → ℕ
 listed p g nil = []
 listed p g (node at k v kids rest) = when (p k) (g at k v kids) ++ (listed p g kids ++ listed p g rest)
 
-unfoldable pub nodesIn : Forest → List ℕ
-nodesIn f = listed (λ k. true) (λ at k v kids. at) f
+unfoldable pub nodes_in : Forest → List ℕ
+nodes_in f = listed (λ k. true) (λ at k v kids. at) f
 
-unfoldable pub identsIn : Forest → List ℕ
-identsIn f = listed (λ k. isLook (way k)) (λ at k v kids. at) f
+unfoldable pub idents_in : Forest → List ℕ
+idents_in f = listed (λ k. is_look (way k)) (λ at k v kids. at) f
 
-unfoldable pub namesIn : Forest → List ℕ
-namesIn f = listed (λ k. isName (pick k)) (λ at k v kids. at) f
+unfoldable pub names_in : Forest → List ℕ
+names_in f = listed (λ k. is_name (pick k)) (λ at k v kids. at) f
 
 -- the scope numbers of the Defs and Lambdas
-unfoldable pub scopesIn : Forest → List ℕ
-scopesIn f = listed (λ k. isFn (way k)) (λ at k v kids. v) f
+unfoldable pub scopes_in : Forest → List ℕ
+scopes_in f = listed (λ k. is_fn (way k)) (λ at k v kids. v) f
 
 -- a function's parameter variables: its Params that have a Name
 unfoldable pub params : Forest → ℕ
@@ -121,8 +121,8 @@ params nil = 0
 params (node at k v kids rest) = cond (eqb k 17 && not (empty kids)) 1 0 + params rest
 
 -- each function's scope number and parameter variables
-unfoldable pub paramsIn : Forest → List (ℕ × ℕ)
-paramsIn f = listed (λ k. isFn (way k)) (λ at k v kids. (v, params kids)) f
+unfoldable pub params_in : Forest → List (ℕ × ℕ)
+params_in f = listed (λ k. is_fn (way k)) (λ at k v kids. (v, params kids)) f
 
 -- the innermost of some scopes
 unfoldable pub top : List ℕ → ℕ

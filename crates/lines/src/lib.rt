@@ -3,7 +3,7 @@ mod pieces;
 
 ghost use Rattle.std.specs.Prelude.{[], ◌∷◌};
 ghost use Rattle.text.specs.Window.{Puts};
-ghost use Rattle.lines.specs.Lines.{refusalLine, countsLine, bindingLine, entryLine, slot_name, scopeNames, scopeLine, copyLine, resolutionText, identLine, errorLine};
+ghost use Rattle.lines.specs.Lines.{refusal_line, counts_line, binding_line, entry_line, slot_name, scope_names, scope_line, copy_line, resolution_text, ident_line, error_line};
 
 use answer::Answer;
 use nodefile::{kinds, node};
@@ -11,14 +11,14 @@ use pieces::{put_choice, put_name, put_number, put_source};
 use text::Cursor;
 
 pub fn put_refusal(out: &mut [u8], c: Cursor, number: u64) -> Cursor
-    ensures { Puts (refusalLine number ∷ []) c out.old result out.new }
+    ensures { Puts (refusal_line number ∷ []) c out.old result out.new }
 {
     let k = put_number(out, c, b"answer ", number);
     text::put_bytes(out, k, b"\n")
 }
 
 pub fn put_counts(out: &mut [u8], c: Cursor, a: Answer) -> Cursor
-    ensures { Puts (countsLine a ∷ []) c out.old result out.new }
+    ensures { Puts (counts_line a ∷ []) c out.old result out.new }
 {
     let mut k = put_number(out, c, b"answer 0 bindings ", a.bindings as u64);
     k = put_number(out, k, b" module ", a.module as u64);
@@ -30,7 +30,7 @@ pub fn put_counts(out: &mut [u8], c: Cursor, a: Answer) -> Cursor
 
 // The record of binding i.
 pub fn put_binding(out: &mut [u8], c: Cursor, file: &[u8], i: usize, r: u64) -> Cursor
-    ensures { Puts (bindingLine file.now i r ∷ []) c out.old result out.new }
+    ensures { Puts (binding_line file.now i r ∷ []) c out.old result out.new }
 {
     let mut k = put_number(out, c, b"B ", i as u64);
     k = text::put_bytes(out, k, b" ");
@@ -57,7 +57,7 @@ pub fn put_binding(out: &mut [u8], c: Cursor, file: &[u8], i: usize, r: u64) -> 
 
 // A module entry.
 pub fn put_entry(out: &mut [u8], c: Cursor, file: &[u8], r: u32) -> Cursor
-    ensures { Puts (entryLine file.now r ∷ []) c out.old result out.new }
+    ensures { Puts (entry_line file.now r ∷ []) c out.old result out.new }
 {
     let mut k = put_number(out, c, b"M ", answer::entry::slot(r));
     k = text::put_bytes(out, k, b" ");
@@ -84,7 +84,7 @@ fn put_slot(out: &mut [u8], c: Cursor, file: &[u8], scope: u64, r: u32) -> Curso
 
 // The names of a scope's slots, in order.
 fn put_names(out: &mut [u8], c: Cursor, file: &[u8], slots: &[u32], scope: u64) -> Cursor
-    ensures { Puts (scopeNames file.now slots.now scope ∷ []) c out.old result out.new }
+    ensures { Puts (scope_names file.now slots.now scope ∷ []) c out.old result out.new }
 {
     let mut k = c;
     let mut i = 0;
@@ -97,7 +97,7 @@ fn put_names(out: &mut [u8], c: Cursor, file: &[u8], slots: &[u32], scope: u64) 
 
 // Scope s; slots: those of all scopes.
 pub fn put_scope(out: &mut [u8], c: Cursor, file: &[u8], slots: &[u32], s: usize, r: u32) -> Cursor
-    ensures { Puts (scopeLine file.now slots.now s r ∷ []) c out.old result out.new }
+    ensures { Puts (scope_line file.now slots.now s r ∷ []) c out.old result out.new }
 {
     let mut k = put_number(out, c, b"S ", s as u64);
     k = put_number(out, k, b" ", answer::scope::params(r));
@@ -107,7 +107,7 @@ pub fn put_scope(out: &mut [u8], c: Cursor, file: &[u8], slots: &[u32], s: usize
 }
 
 pub fn put_copy(out: &mut [u8], c: Cursor, r: u32) -> Cursor
-    ensures { Puts (copyLine r ∷ []) c out.old result out.new }
+    ensures { Puts (copy_line r ∷ []) c out.old result out.new }
 {
     let mut k = put_number(out, c, b"C ", answer::copy::scope(r));
     k = put_number(out, k, b" ", answer::copy::parent(r));
@@ -117,7 +117,7 @@ pub fn put_copy(out: &mut [u8], c: Cursor, r: u32) -> Cursor
 
 // An outcome: M or L, slot and binding; or G and the number of the global.
 fn put_resolution(out: &mut [u8], c: Cursor, r: u32) -> Cursor
-    ensures { Puts (resolutionText r ∷ []) c out.old result out.new }
+    ensures { Puts (resolution_text r ∷ []) c out.old result out.new }
 {
     if answer::node::class(r) == answer::node::GLOBAL {
         let g = put_number(out, c, b" G ", answer::node::slot(r));
@@ -131,7 +131,7 @@ fn put_resolution(out: &mut [u8], c: Cursor, r: u32) -> Cursor
 
 // Node i: a line if it is an Ident with an outcome, else none.
 pub fn put_ident(out: &mut [u8], c: Cursor, file: &[u8], i: usize, r: u32) -> Cursor
-    ensures { Puts (identLine file.now i r ∷ []) c out.old result out.new }
+    ensures { Puts (ident_line file.now i r ∷ []) c out.old result out.new }
 {
     if node::kind(file, i) != kinds::IDENT {
         return c;
@@ -145,7 +145,7 @@ pub fn put_ident(out: &mut [u8], c: Cursor, file: &[u8], i: usize, r: u32) -> Cu
 
 // An error, with its node's name.
 pub fn put_error(out: &mut [u8], c: Cursor, file: &[u8], r: u32) -> Cursor
-    ensures { Puts (errorLine file.now r ∷ []) c out.old result out.new }
+    ensures { Puts (error_line file.now r ∷ []) c out.old result out.new }
 {
     let at = answer::error::node(r);
     let mut k = put_number(out, c, b"E ", at);

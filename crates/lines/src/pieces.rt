@@ -2,13 +2,13 @@
 ghost use Rattle.std.specs.Prelude.{[], ◌∷◌};
 ghost use Rattle.text.specs.Bytes.{decimal};
 ghost use Rattle.text.specs.Window.{Puts};
-ghost use Rattle.lines.specs.Lines.{nameText, choice, sourceText};
+ghost use Rattle.lines.specs.Lines.{name_text, choice, source_text};
 
 use text::Cursor;
 
 // A name, as it is printed.
 pub fn put_name(out: &mut [u8], c: Cursor, file: &[u8], name: u64) -> Cursor
-    ensures { Puts (nameText file.now name ∷ []) c out.old result out.new }
+    ensures { Puts (name_text file.now name ∷ []) c out.old result out.new }
 {
     let s = nodefile::spelled(nodefile::names(file), nodefile::pool(file), name as usize);
     text::put_bytes(out, c, s)
@@ -34,7 +34,7 @@ pub fn put_choice(out: &mut [u8], c: Cursor, bit: u64, one: &[u8], zero: &[u8]) 
 
 // A binding's source node; `-` if it is from the module.
 pub fn put_source(out: &mut [u8], c: Cursor, entry: u64, source: u64) -> Cursor
-    ensures { Puts (sourceText entry source ∷ []) c out.old result out.new }
+    ensures { Puts (source_text entry source ∷ []) c out.old result out.new }
 {
     if entry == 1 {
         return text::put_bytes(out, c, b"-");

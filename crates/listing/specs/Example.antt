@@ -4,15 +4,15 @@ use Rattle.base.specs.UpTo.{tally, up_to}
 use Rattle.bits.specs.Field.{bit_of, field_of}
 use Rattle.bits.specs.Pack.{pack, bytes_of}
 use Rattle.lexical.specs.Lists.{first}
-use Rattle.lexical.specs.Tree.{way, isFn}
+use Rattle.lexical.specs.Tree.{way, is_fn}
 use Rattle.lexical.specs.Records.{Records}
-use Rattle.lexical.specs.Examples.{listingRecords}
+use Rattle.lexical.specs.Examples.{listing_records}
 use Rattle.answer.specs.declared.Answer.{Answer}
 use Rattle.answer.specs.Buffers.{Buffers, buffers}
-use Rattle.answer.specs.Records.{bindingOf, entry_of, pair_of, copy_of}
-use Rattle.scope.specs.Nodes.{ofNode, answer_of}
+use Rattle.answer.specs.Records.{binding_of, entry_of, pair_of, copy_of}
+use Rattle.scope.specs.Nodes.{of_node, answer_of}
 use Rattle.text.specs.Bytes.{ascii, digits, decimal, joined}
-use Rattle.lines.specs.Lines.{nameText, refusalLine, countsLine, sourceText, bindingLine, entryLine, slot_name, scopeLine, copyLine, resolutionText, identLine, errorLine}
+use Rattle.lines.specs.Lines.{name_text, refusal_line, counts_line, source_text, binding_line, entry_line, slot_name, scope_line, copy_line, resolution_text, ident_line, error_line}
 use Rattle.listing.specs.Text.{text_of}
 
 -- a node: kind, size, value
@@ -45,11 +45,11 @@ counts r = record {
 
 held : Records → Buffers
 held r = buffers
-    (up_to (λ i. answer_of (first (ofNode i) (r.names ++ r.answers))) 12)
-    (map bindingOf r.bindings) (map entry_of r.entries) (map pair_of r.scopes)
+    (up_to (λ i. answer_of (first (of_node i) (r.names ++ r.answers))) 12)
+    (map binding_of r.bindings) (map entry_of r.entries) (map pair_of r.scopes)
     (map pair_of r.slots) (map copy_of r.copies) (map pair_of r.errors)
 
-listing : text_of bytes (counts listingRecords) (held listingRecords) ≡ joined (
+listing : text_of bytes (counts listing_records) (held listing_records) ≡ joined (
     ascii "answer 0 bindings 3 module 1 slots 3 copies 1 errors 1\n"
     ∷ ascii "B 0 f M 0 public once free 1\n"
     ∷ ascii "B 1 a L 0 public once captured 3\n"
@@ -62,9 +62,9 @@ listing : text_of bytes (counts listingRecords) (held listingRecords) ≡ joined
     ∷ ascii "I 9 L 1 1\n"
     ∷ ascii "I 10 L 0 2\n"
     ∷ ascii "E 11 1 _k\n" ∷ [])
-unfolding node name bytes counts held listingRecords tally up_to bit_of field_of first ofNode answer_of digits decimal nameText refusalLine countsLine sourceText bindingLine entryLine slot_name scopeLine copyLine resolutionText identLine errorLine way isFn text_of
+unfolding node name bytes counts held listing_records tally up_to bit_of field_of first of_node answer_of digits decimal name_text refusal_line counts_line source_text binding_line entry_line slot_name scope_line copy_line resolution_text ident_line error_line way is_fn text_of
 listing = refl
 
-refusal : text_of bytes (record { number = 12; bindings = 0; «module» = 0; slots = 0; copies = 0; errors = 0 }) (held listingRecords) ≡ ascii "answer 12\n"
-unfolding digits decimal refusalLine text_of
+refusal : text_of bytes (record { number = 12; bindings = 0; «module» = 0; slots = 0; copies = 0; errors = 0 }) (held listing_records) ≡ ascii "answer 12\n"
+unfolding digits decimal refusal_line text_of
 refusal = refl

@@ -1,46 +1,46 @@
 -- The text of document 01's listing, of any bytes, any answer and any buffers; and a file's own.
 use Rattle.std.specs.Prelude.{ℕ, suc, cond, List, [], ◌∷◌, eqb, get_or, take, replicate}
-use Rattle.nodefile.specs.Layout.{nodeCount}
-use Rattle.nodefile.specs.Listed.{scopeCount}
+use Rattle.nodefile.specs.Layout.{node_count}
+use Rattle.nodefile.specs.Listed.{scope_count}
 use Rattle.answer.specs.declared.Answer.{Answer}
 use Rattle.answer.specs.Buffers.{Buffers, buffers}
 use Rattle.scope.specs.Answer.{Resolves}
 use Rattle.text.specs.Bytes.{joined, each}
 use Rattle.text.specs.Window.{Window}
-use Rattle.lines.specs.Lines.{rows, refusalLine, countsLine, bindingLine, entryLine, scopeLine, copyLine, identLine, errorLine}
+use Rattle.lines.specs.Lines.{rows, refusal_line, counts_line, binding_line, entry_line, scope_line, copy_line, ident_line, error_line}
 
 -- the lines of each kind
-abbrev pub bindingLines : List ℕ → List ℕ → List ℕ
-bindingLines bs list = rows (bindingLine bs) list
+abbrev pub binding_lines : List ℕ → List ℕ → List ℕ
+binding_lines bs list = rows (binding_line bs) list
 
-abbrev pub entryLines : List ℕ → List ℕ → List ℕ
-entryLines bs list = rows (λ i r. entryLine bs r) list
+abbrev pub entry_lines : List ℕ → List ℕ → List ℕ
+entry_lines bs list = rows (λ i r. entry_line bs r) list
 
-abbrev pub scopeLines : List ℕ → List ℕ → List ℕ → List ℕ
-scopeLines bs scopes slots = each (λ s. scopeLine bs slots s (get_or scopes s 0)) (suc (scopeCount bs))
+abbrev pub scope_lines : List ℕ → List ℕ → List ℕ → List ℕ
+scope_lines bs scopes slots = each (λ s. scope_line bs slots s (get_or scopes s 0)) (suc (scope_count bs))
 
 abbrev pub copy_lines : List ℕ → List ℕ
-copy_lines list = rows (λ i r. copyLine r) list
+copy_lines list = rows (λ i r. copy_line r) list
 
-abbrev pub identLines : List ℕ → List ℕ → List ℕ
-identLines bs nodes = each (λ i. identLine bs i (get_or nodes i 0)) (nodeCount bs)
+abbrev pub ident_lines : List ℕ → List ℕ → List ℕ
+ident_lines bs nodes = each (λ i. ident_line bs i (get_or nodes i 0)) (node_count bs)
 
-abbrev pub errorLines : List ℕ → List ℕ → List ℕ
-errorLines bs list = rows (λ i r. errorLine bs r) list
+abbrev pub error_lines : List ℕ → List ℕ → List ℕ
+error_lines bs list = rows (λ i r. error_line bs r) list
 
 -- an accepted file: the counts, and a line for each record
-abbrev pub acceptedText : List ℕ → Answer → Buffers → List ℕ
-acceptedText bs a b = joined (
-    countsLine a
-    ∷ bindingLines bs (take a.bindings b.bindings)
-    ∷ entryLines bs (take a.module b.entries)
-    ∷ scopeLines bs b.scopes (take a.slots b.slots)
+abbrev pub accepted_text : List ℕ → Answer → Buffers → List ℕ
+accepted_text bs a b = joined (
+    counts_line a
+    ∷ binding_lines bs (take a.bindings b.bindings)
+    ∷ entry_lines bs (take a.module b.entries)
+    ∷ scope_lines bs b.scopes (take a.slots b.slots)
     ∷ copy_lines (take a.copies b.copies)
-    ∷ identLines bs b.nodes
-    ∷ errorLines bs (take a.errors b.errors) ∷ [])
+    ∷ ident_lines bs b.nodes
+    ∷ error_lines bs (take a.errors b.errors) ∷ [])
 
 unfoldable pub text_of : List ℕ → Answer → Buffers → List ℕ
-text_of bs a b = cond (eqb a.number 0) (acceptedText bs a b) (refusalLine a.number)
+text_of bs a b = cond (eqb a.number 0) (accepted_text bs a b) (refusal_line a.number)
 
 -- buffers of the full lengths
 abbrev pub full : Buffers

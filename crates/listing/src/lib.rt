@@ -5,7 +5,7 @@ mod read;
 ghost use Rattle.answer.specs.Buffers.{buffers};
 ghost use Rattle.std.specs.Prelude.{[], ◌∷◌, length};
 ghost use Rattle.text.specs.Window.{Window, Puts};
-ghost use Rattle.listing.specs.Text.{text_of, acceptedText, Listed};
+ghost use Rattle.listing.specs.Text.{text_of, accepted_text, Listed};
 
 use answer::Answer;
 use text::Cursor;
@@ -24,7 +24,7 @@ fn put_accepted(
     copies: &[u32],
     errors: &[u32],
 ) -> Cursor
-    ensures { Puts (acceptedText file.now answer (buffers nodes.now bindings.now «module».now scopes.now slots.now copies.now errors.now) ∷ []) c out.old result out.new }
+    ensures { Puts (accepted_text file.now answer (buffers nodes.now bindings.now «module».now scopes.now slots.now copies.now errors.now) ∷ []) c out.old result out.new }
 {
     let mut k = lines::put_counts(out, c, answer);
     k = lists::put_bindings(out, k, file, read::front64(bindings, answer.bindings));

@@ -1,13 +1,13 @@
 // The lists: a line for each record, in order.
 ghost use Rattle.std.specs.Prelude.{[], ◌∷◌};
 ghost use Rattle.text.specs.Window.{Puts};
-ghost use Rattle.listing.specs.Text.{bindingLines, entryLines, scopeLines, copy_lines, identLines, errorLines};
+ghost use Rattle.listing.specs.Text.{binding_lines, entry_lines, scope_lines, copy_lines, ident_lines, error_lines};
 
 use crate::read;
 use text::Cursor;
 
 pub fn put_bindings(out: &mut [u8], c: Cursor, file: &[u8], list: &[u64]) -> Cursor
-    ensures { Puts (bindingLines file.now list.now ∷ []) c out.old result out.new }
+    ensures { Puts (binding_lines file.now list.now ∷ []) c out.old result out.new }
 {
     let mut k = c;
     let mut i = 0;
@@ -19,7 +19,7 @@ pub fn put_bindings(out: &mut [u8], c: Cursor, file: &[u8], list: &[u64]) -> Cur
 }
 
 pub fn put_entries(out: &mut [u8], c: Cursor, file: &[u8], list: &[u32]) -> Cursor
-    ensures { Puts (entryLines file.now list.now ∷ []) c out.old result out.new }
+    ensures { Puts (entry_lines file.now list.now ∷ []) c out.old result out.new }
 {
     let mut k = c;
     let mut i = 0;
@@ -32,7 +32,7 @@ pub fn put_entries(out: &mut [u8], c: Cursor, file: &[u8], list: &[u32]) -> Curs
 
 // Scope 0 and each Def's and Lambda's.
 pub fn put_scopes(out: &mut [u8], c: Cursor, file: &[u8], scopes: &[u32], slots: &[u32]) -> Cursor
-    ensures { Puts (scopeLines file.now scopes.now slots.now ∷ []) c out.old result out.new }
+    ensures { Puts (scope_lines file.now scopes.now slots.now ∷ []) c out.old result out.new }
 {
     let n = nodefile::node::scope_count(file) + 1;
     let mut k = c;
@@ -57,7 +57,7 @@ pub fn put_copies(out: &mut [u8], c: Cursor, list: &[u32]) -> Cursor
 }
 
 pub fn put_idents(out: &mut [u8], c: Cursor, file: &[u8], nodes: &[u32]) -> Cursor
-    ensures { Puts (identLines file.now nodes.now ∷ []) c out.old result out.new }
+    ensures { Puts (ident_lines file.now nodes.now ∷ []) c out.old result out.new }
 {
     let n = nodefile::node_count(file) as usize;
     let mut k = c;
@@ -70,7 +70,7 @@ pub fn put_idents(out: &mut [u8], c: Cursor, file: &[u8], nodes: &[u32]) -> Curs
 }
 
 pub fn put_errors(out: &mut [u8], c: Cursor, file: &[u8], list: &[u32]) -> Cursor
-    ensures { Puts (errorLines file.now list.now ∷ []) c out.old result out.new }
+    ensures { Puts (error_lines file.now list.now ∷ []) c out.old result out.new }
 {
     let mut k = c;
     let mut i = 0;

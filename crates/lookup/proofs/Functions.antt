@@ -13,25 +13,25 @@ use Rattle.store.specs.Sections.{mem}
 use Rattle.store.specs.Meanings.{Range, SavedAll}
 use Rattle.store.specs.Rel.{Rel, caps}
 use Rattle.store.specs.Scoping as scoping
-use Rattle.store.specs.Laws.Points.{absent-past}
-use Rattle.store.specs.Laws.Around.{env-enter, env-leave}
-use Rattle.store.specs.Laws.Reach.{rest, with-around, rest-skip, rest-state}
+use Rattle.store.specs.Laws.Points.{absent_past}
+use Rattle.store.specs.Laws.Around.{env_enter, env_leave}
+use Rattle.store.specs.Laws.Reach.{rest, with_around, rest_skip, rest_state}
 use Rattle.lookup.specs.Enter.{Entering, Entered, Leaving, Left}
 use Rattle.store.specs.Laws.Full.{never_both}
 
 -- a local in reach stands among the bindings
-saved-stands : (env made : List Binding) (t : List ℕ) → SavedAll env made t → (k : ℕ) (b : Binding) → get_elem? env k ≡ some b → get_elem? made b.id ≡ some b
+saved_stands : (env made : List Binding) (t : List ℕ) → SavedAll env made t → (k : ℕ) (b : Binding) → get_elem? env k ≡ some b → get_elem? made b.id ≡ some b
 unfolding SavedAll
-saved-stands [] made t s k b e = absurd (none-some refl e)
-saved-stands (x ∷ env) made t s zero b e = let z : x ≡ b = cc in rw (← z) s.0.stands
-saved-stands (x ∷ env) made t s (suc k) b e = saved-stands env made t s.1 k b e
+saved_stands [] made t s k b e = absurd (none-some refl e)
+saved_stands (x ∷ env) made t s zero b e = let z : x ≡ b = cc in rw (← z) s.0.stands
+saved_stands (x ∷ env) made t s (suc k) b e = saved_stands env made t s.1 k b e
 
 -- a binding whose number is in a range is one of the range's
 ranged : {made bs : List Binding} {lo hi : ℕ} → Range made bs lo hi → (b : Binding) → get_elem? made b.id ≡ some b → lo ≤ b.id → b.id < hi → get_elem? bs (b.id - lo) ≡ some b
 ranged {made} {bs} {lo} {hi} r b e l h = go (opened (get_elem? bs (b.id - lo)))
   where
     go : Opened (get_elem? bs (b.id - lo)) → get_elem? bs (b.id - lo) ≡ some b
-    go (absent q) = absurd (omega (arith, absent-past bs (b.id - lo) q, r.end))
+    go (absent q) = absurd (omega (arith, absent_past bs (b.id - lo) q, r.end))
     go (present x q) =
         let z : lo + (b.id - lo) ≡ b.id = omega arith in
         let y : get_elem? made b.id ≡ some x = rw z at (r.are (b.id - lo) x q) in
@@ -49,43 +49,43 @@ levelled s level = record { bindings = s.bindings; slots = s.slots; copies = s.c
 
 module _ {scope : ℕ} {s : State} {binds t : List ℕ} where
   -- nothing is done any more
-  pub enter-over : s.full ≡ true → Entered scope s binds t s t
-  enter-over f = record { right = λ g. record { over = λ _. g.rel.over f; rel = λ n. never_both f n } }
+  pub enter_over : s.full ≡ true → Entered scope s binds t s t
+  enter_over f = record { right = λ g. record { over = λ _. g.rel.over f; rel = λ n. never_both f n } }
 
   module _ (n : s.full ≡ false) where
-    pub enter-deep : Entering scope s binds t → s.level < 126
-    enter-deep g = omega (arith, (g.rel.rel n).around.level-is, g.deep)
+    pub enter_deep : Entering scope s binds t → s.level < 126
+    enter_deep g = omega (arith, (g.rel.rel n).around.level_is, g.deep)
 
     module _ (long : length t ≡ 20864) (lo hi : ℕ) (e-lo : lo ≡ get_or t (12032 + scope) 0) (e-hi : hi ≡ get_or t (12288 + scope) 0) (t₁ : List ℕ) (e-t : t₁ ≡ set t (20736 + (s.level + 1)) scope) where
-      pub entered-scope : (g : Entering scope s binds t) → Rel g.W g.env (scope ∷ g.ss) (caps g.st) g.st (levelled s (s.level + 1)) (mem binds g.w t₁)
-      entered-scope g =
+      pub entered_scope : (g : Entering scope s binds t) → Rel g.W g.env (scope ∷ g.ss) (caps g.st) g.st (levelled s (s.level + 1)) (mem binds g.w t₁)
+      entered_scope g =
           let r = g.rel.rel n in
-          let d = enter-deep g in
+          let d = enter_deep g in
           rw e-t (
-          with-around
-          (rest-state (rest-skip (rest r) (20736 + (s.level + 1)) scope (omega arith) (omega arith) (omega arith)) (levelled s (s.level + 1)) refl refl refl refl)
-          (env-enter r.around scope r.image.made.few long g.small d)
+          with_around
+          (rest_state (rest_skip (rest r) (20736 + (s.level + 1)) scope (omega arith) (omega arith) (omega arith)) (levelled s (s.level + 1)) refl refl refl refl)
+          (env_enter r.around scope r.image.made.few long g.small d)
           )
 
-      pub its-range : (g : Entering scope s binds t) → Range g.st.made (g.W.D scope) lo hi
-      its-range g = rw (e-lo, e-hi) ((g.rel.rel n).ranges scope g.small)
+      pub its_range : (g : Entering scope s binds t) → Range g.st.made (g.W.D scope) lo hi
+      its_range g = rw (e-lo, e-hi) ((g.rel.rel n).ranges scope g.small)
 
       -- none of its variables is in reach: what is in reach belongs to the scopes around
       pub unreached : (g : Entering scope s binds t) (j : ℕ) (b : Binding) → get_elem? g.env j ≡ some b → lo ≤ b.id → b.id < hi → ⊥
       unreached g j b e l h =
           let r = g.rel.rel n in
-          let q : b.owner ≡ scope = g.settled.owners scope (b.id - lo) b (ranged (its-range g) b (saved-stands g.env g.st.made t r.around.saved j b e) l h) in
+          let q : b.owner ≡ scope = g.settled.owners scope (b.id - lo) b (ranged (its_range g) b (saved_stands g.env g.st.made t r.around.saved j b e) l h) in
           g.unmet (rw (← q) (g.owned j b e))
 
       abbrev pub to-open : Entering scope s binds t → scoping.Opening binds t₁ lo hi
-      to-open g = record { W = g.W; env = g.env; ss = scope ∷ g.ss; cap = caps g.st; st = g.st; s = levelled s (s.level + 1); w = g.w; bs = g.W.D scope; rel = entered-scope g; range = its-range g; apart = unreached g }
+      to-open g = record { W = g.W; env = g.env; ss = scope ∷ g.ss; cap = caps g.st; st = g.st; s = levelled s (s.level + 1); w = g.w; bs = g.W.D scope; rel = entered_scope g; range = its_range g; apart = unreached g }
 
       pub enter-done : (t₂ : List ℕ) (r : State) → scoping.Opened binds t₁ lo hi t₂ → AtLevel s (s.level + 1) r → Entered scope s binds t r t₂
       enter-done t₂ r o e =
           record {
             right = λ g. let x = o.right (to-open g) in record {
               over = λ f. never_both f (e.5 ∙ n);
-              rel = λ _. with-around (rest-state (rest x) r e.1 e.2 e.3 e.4) (rw e.0 x.around);
+              rel = λ _. with_around (rest_state (rest x) r e.1 e.2 e.3 e.4) (rw e.0 x.around);
             };
           }
 
@@ -93,28 +93,28 @@ module _ {scope : ℕ} {s : State} {binds t : List ℕ} where
 
 module _ {scope : ℕ} {s : State} {binds t : List ℕ} where
   -- nothing is done any more
-  pub exit-over : s.full ≡ true → Left scope s binds t s t
-  exit-over f = record { right = λ g. record { over = λ _. g.rel.over f; rel = λ n. never_both f n } }
+  pub exit_over : s.full ≡ true → Left scope s binds t s t
+  exit_over f = record { right = λ g. record { over = λ _. g.rel.over f; rel = λ n. never_both f n } }
 
   module _ (n : s.full ≡ false) where
-    pub exit-deep : Leaving scope s binds t → 1 ≤ s.level
-    exit-deep g = omega (arith, (g.rel.rel n).around.level-is, g.outside)
+    pub exit_deep : Leaving scope s binds t → 1 ≤ s.level
+    exit_deep g = omega (arith, (g.rel.rel n).around.level_is, g.outside)
 
     module _ (lo hi : ℕ) (e-lo : lo ≡ get_or t (12032 + scope) 0) (e-hi : hi ≡ get_or t (12288 + scope) 0) where
-      pub left-range : (g : Leaving scope s binds t) → Range g.st.made (g.W.D scope) lo hi
-      left-range g = rw (e-lo, e-hi) ((g.rel.rel n).ranges scope g.small)
+      pub left_range : (g : Leaving scope s binds t) → Range g.st.made (g.W.D scope) lo hi
+      left_range g = rw (e-lo, e-hi) ((g.rel.rel n).ranges scope g.small)
 
       pub numbered : (g : Leaving scope s binds t) → scoping.Numbered (g.W.D scope) lo
-      numbered g k b e = ((g.rel.rel n).image.made.sound (lo + k) b ((left-range g).are k b e)).id
+      numbered g k b e = ((g.rel.rel n).image.made.sound (lo + k) b ((left_range g).are k b e)).id
 
       abbrev pub to-close : Leaving scope s binds t → scoping.Closing binds t lo hi
-      to-close g = record { W = g.W; env = g.env; ss = scope ∷ g.ss; cap = caps g.st; st = g.st; s = s; w = g.w; bs = g.W.D scope; rel = g.rel.rel n; numbered = numbered g; end = (left-range g).end }
+      to-close g = record { W = g.W; env = g.env; ss = scope ∷ g.ss; cap = caps g.st; st = g.st; s = s; w = g.w; bs = g.W.D scope; rel = g.rel.rel n; numbered = numbered g; end = (left_range g).end }
 
-      pub exit-done : (t₁ : List ℕ) (r : State) → scoping.Closed binds t lo hi t₁ → AtLevel s (s.level - 1) r → Left scope s binds t r t₁
-      exit-done t₁ r c e =
+      pub exit_done : (t₁ : List ℕ) (r : State) → scoping.Closed binds t lo hi t₁ → AtLevel s (s.level - 1) r → Left scope s binds t r t₁
+      exit_done t₁ r c e =
           record {
             right = λ g. let x = c.right (to-close g) in record {
               over = λ f. never_both f (e.5 ∙ n);
-              rel = λ _. with-around (rest-state (rest x) r e.1 e.2 e.3 e.4) (env-leave r.level (omega (arith, e.0, exit-deep g, x.around.level-is)) x.around);
+              rel = λ _. with_around (rest_state (rest x) r e.1 e.2 e.3 e.4) (env_leave r.level (omega (arith, e.0, exit_deep g, x.around.level_is)) x.around);
             };
           }

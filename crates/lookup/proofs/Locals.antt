@@ -9,9 +9,9 @@ use Rattle.lexical.specs.Places.{at-below}
 use Rattle.lexical.specs.Tree.{top}
 use Rattle.lexical.specs.State.{local}
 use Rattle.lexical.specs.Third.{bring}
-use Rattle.lexical.specs.Records.{capturesFound}
+use Rattle.lexical.specs.Records.{captures_found}
 use Rattle.lexical.specs.Code.Adds.{FoundBelow}
-use Rattle.lexical.specs.Proof.Same.{bring-made}
+use Rattle.lexical.specs.Proof.Same.{bring_made}
 use Rattle.store.specs.declared.ids.State.{State}
 use Rattle.store.specs.declared.ids.Brought.{Brought}
 use Rattle.answer.specs.declared.ids.BindingId.{BindingId}
@@ -20,11 +20,11 @@ use Rattle.store.specs.declared.ids.Slot.TheVariants as slot
 use Rattle.store.specs.Sections.{Mem, mem}
 use Rattle.store.specs.Rel.{caps}
 use Rattle.lookup.specs.Bring.{Bringing, Brings}
-use Rattle.lookup.specs.Lookup.{resOf, looked, Small, Capturing, Captured, Locally, LocalDone}
+use Rattle.lookup.specs.Lookup.{res_of, looked, Small, Capturing, Captured, Locally, LocalDone}
 
 module _ {id : ℕ} {s : State} {binds w t : List ℕ} where
   abbrev pub to_capture : Locally id s (mem binds w t) → Capturing id s.level binds t
-  to_capture g = record { W = g.W; env = g.env; ss = g.ss; cap = caps g.st; st = g.st; s = s; w = w; b = g.b; rel = g.rel; stands = g.stands; number = g.number; level-is = refl }
+  to_capture g = record { W = g.W; env = g.env; ss = g.ss; cap = caps g.st; st = g.st; s = s; w = w; b = g.b; rel = g.rel; stands = g.stands; number = g.number; level_is = refl }
 
   module _ (binds' : List ℕ) (c : Captured id s.level binds t binds') where
     abbrev pub to-bring : Locally id s (mem binds w t) → Bringing s.level id s (mem binds' w t)
@@ -44,28 +44,28 @@ module _ {id : ℕ} {s : State} {binds w t : List ℕ} where
           local = g.local;
           number = g.number;
           stack = r.around.stack;
-          level-is = r.around.level-is;
+          level_is = r.around.level_is;
           low = r.around.low;
         }
 
     module _ (ty : Bool) (r : Brought) (m' : Mem) (d : Brings s.level id s (mem binds' w t) r m') where
-      made-still : (g : Locally id s (mem binds w t)) → g.b.id < length (bring g.ss g.b g.st).1.made
-      made-still g = rw (bring-made g.ss g.b g.st) (at-below g.st.made g.b.id g.b g.stands)
+      made_still : (g : Locally id s (mem binds w t)) → g.b.id < length (bring g.ss g.b g.st).1.made
+      made_still g = rw (bring_made g.ss g.b g.st) (at-below g.st.made g.b.id g.b g.stands)
 
       -- directly in a type
-      pub local-refused : ty ≡ true → LocalDone id ty s (mem binds w t) (record { st = r.st; res = res.LocalInType }) m'
-      unfolding looked resOf Small capturesFound FoundBelow
-      local-refused e =
+      pub local_refused : ty ≡ true → LocalDone id ty s (mem binds w t) (record { st = r.st; res = res.LocalInType }) m'
+      unfolding looked res_of Small captures_found FoundBelow
+      local_refused e =
           record {
             right = λ g o. rw e (
                 let x = d.right (to-bring g) in
-                record { rel = x.rel; is = λ n. refl; small = λ n. tt; below = λ n. made-still g });
+                record { rel = x.rel; is = λ n. refl; small = λ n. tt; below = λ n. made_still g });
           }
 
       -- elsewhere
-      pub local-found : ty ≡ false → (id' : BindingId) → id'.0 ≡ id → LocalDone id ty s (mem binds w t) (record { st = r.st; res = res.Slot (slot.Local r.slot) id' }) m'
-      unfolding looked resOf Small capturesFound FoundBelow
-      local-found e id' q =
+      pub local_found : ty ≡ false → (id' : BindingId) → id'.0 ≡ id → LocalDone id ty s (mem binds w t) (record { st = r.st; res = res.Slot (slot.Local r.slot) id' }) m'
+      unfolding looked res_of Small captures_found FoundBelow
+      local_found e id' q =
           record {
             right = λ g o. rw e (
                 let x = d.right (to-bring g) in
@@ -73,6 +73,6 @@ module _ {id : ℕ} {s : State} {binds w t : List ℕ} where
                   rel = x.rel;
                   is = λ n. ap₂ (λ (k i : ℕ). res.Slot (slot.Local (record { 0 = k })) (record { 0 = i })) (x.slot n) (q ∙ g.number);
                   small = λ n. rw (← x.slot n) (x.small n);
-                  below = λ n. made-still g;
+                  below = λ n. made_still g;
                 });
           }

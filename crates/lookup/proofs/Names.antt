@@ -12,7 +12,7 @@ use Rattle.lexical.specs.Lists.{first, place, map_o, none-some, Opened, absent, 
 use Rattle.lexical.specs.Module.{Outer, global, missing, outer, beyond, globally}
 use Rattle.lexical.specs.State.{Binding, outside}
 use Rattle.lexical.specs.Block.{called}
-use Rattle.lexical.specs.Records.{capturesFound, capturesOuter}
+use Rattle.lexical.specs.Records.{captures_found, captures_outer}
 use Rattle.lexical.specs.Code.Adds.{FoundBelow, OuterBelow}
 use Rattle.store.specs.declared.ids.State.{State}
 use Rattle.store.specs.declared.ids.Resolved.{Resolved}
@@ -21,10 +21,10 @@ use Rattle.store.specs.declared.ids.Resolution.TheVariants as res
 use Rattle.store.specs.Sections.{Mem, mem, plus}
 use Rattle.store.specs.Meanings.{number_of}
 use Rattle.store.specs.Rel.{caps}
-use Rattle.store.specs.Laws.Around.{number-some, number-none, saved-found}
-use Rattle.lookup.specs.Lookup.{resOf, looked, asGlobal, Small, Locally, LocalDone, InModule, ModuleDone, Named, NamedDone, Found'}
+use Rattle.store.specs.Laws.Around.{number-some, number-none, saved_found}
+use Rattle.lookup.specs.Lookup.{res_of, looked, as_global, Small, Locally, LocalDone, InModule, ModuleDone, Named, NamedDone, Found'}
 use Rattle.store.specs.Laws.Full.{never_both}
-use Rattle.lookup.proofs.Captures.{rel-caps}
+use Rattle.lookup.proofs.Captures.{rel_caps}
 
 -- ---- numbers (+ 1) of what is there
 
@@ -49,15 +49,15 @@ place-below n (x ∷ xs) i e = go (eqb x n) (opened (place n xs)) e (place-below
     go false (present j q) e h = let y : some (suc j) ≡ some i = sym (ap (map_o suc) q) ∙ e in let z : suc j ≡ i = cc in omega (arith, h j q)
 
 -- a global, as `get_global` answers it
-pub global-some : (g : ℕ) → 0 < g → res.Global (g - 1) ≡ asGlobal g
-unfolding asGlobal
-global-some zero h = absurd (omega arith)
-global-some (suc g) h = let z : suc g - 1 ≡ g = omega arith in ap res.Global z
+pub global_some : (g : ℕ) → 0 < g → res.Global (g - 1) ≡ as_global g
+unfolding as_global
+global_some zero h = absurd (omega arith)
+global_some (suc g) h = let z : suc g - 1 ≡ g = omega arith in ap res.Global z
 
-pub global-none : (g : ℕ) → g ≤ 0 → res.NotFound ≡ asGlobal g
-unfolding asGlobal
-global-none zero h = refl
-global-none (suc g) h = absurd (omega arith)
+pub global_none : (g : ℕ) → g ≤ 0 → res.NotFound ≡ as_global g
+unfolding as_global
+global_none zero h = refl
+global_none (suc g) h = absurd (omega arith)
 
 -- ---- `get_name`
 
@@ -81,14 +81,14 @@ module _ {name : ℕ} {s : State} {binds w t : List ℕ} (b : ℕ) (e-b : b ≡ 
         go : Opened (first (called name) g.env) → Meant name (b - 1) g.env g.st.made
         go (absent e) = absurd (omega (arith, innermost g, number-none g.env name e))
         go (present x e) =
-            let f = saved-found g.env g.st.made t name x g.rel.around.saved e in
+            let f = saved_found g.env g.st.made t name x g.rel.around.saved e in
             record { b = x; is = e; number = omega (arith, innermost g, number-some g.env name x e); stands = f.0; local = f.1 }
 
-    abbrev pub to-local : Named name s (mem binds w t) → Locally (b - 1) s (mem binds w t)
-    to-local g = let x = meant g in record { W = g.W; env = g.env; ss = g.ss; st = g.st; b = x.b; rel = g.rel; not_full = g.not_full; stands = x.stands; local = x.local; number = x.number }
+    abbrev pub to_local : Named name s (mem binds w t) → Locally (b - 1) s (mem binds w t)
+    to_local g = let x = meant g in record { W = g.W; env = g.env; ss = g.ss; st = g.st; b = x.b; rel = g.rel; not_full = g.not_full; stands = x.stands; local = x.local; number = x.number }
 
-    pub name-local : (ty : Bool) (r : Resolved) (m' : Mem) → LocalDone (b - 1) ty s (mem binds w t) r m' → NamedDone name ty s (mem binds w t) r m'
-    name-local ty r m' d = record { right = λ g. rw (meant g).is (d.right (to-local g) (outer g.W.mods g.W.F.globals name)) }
+    pub name_local : (ty : Bool) (r : Resolved) (m' : Mem) → LocalDone (b - 1) ty s (mem binds w t) r m' → NamedDone name ty s (mem binds w t) r m'
+    name_local ty r m' d = record { right = λ g. rw (meant g).is (d.right (to_local g) (outer g.W.mods g.W.F.globals name)) }
 
   -- no local
   module _ (h : b ≤ 0) (m : ℕ) (e-m : m ≡ get_or t (1024 + name) 0) where
@@ -102,33 +102,33 @@ module _ {name : ℕ} {s : State} {binds w t : List ℕ} (b : ℕ) (e-b : b ≡ 
     -- a module name
     module _ (k : 0 < m) where
       pub placed : (g : Named name s (mem binds w t)) → place name g.W.mods ≡ some (m - 1)
-      placed g = plus-some (place name g.W.mods) m (e-m ∙ g.rel.names.in-module name g.known) k
+      placed g = plus-some (place name g.W.mods) m (e-m ∙ g.rel.names.in_module name g.known) k
 
-      abbrev pub to-module : Named name s (mem binds w t) → InModule (m - 1) s binds
-      to-module g = record { W = g.W; env = g.env; ss = g.ss; st = g.st; w = w; t = t; settled = g.settled; rel = g.rel; not_full = g.not_full; known = place-below name g.W.mods (m - 1) (placed g) }
+      abbrev pub to_module : Named name s (mem binds w t) → InModule (m - 1) s binds
+      to_module g = record { W = g.W; env = g.env; ss = g.ss; st = g.st; w = w; t = t; settled = g.settled; rel = g.rel; not_full = g.not_full; known = place-below name g.W.mods (m - 1) (placed g) }
 
-      pub name-module : (ty : Bool) (r : Resolved) (binds' : List ℕ) → ModuleDone (m - 1) s binds r binds' → NamedDone name ty s (mem binds w t) r (mem binds' w t)
+      pub name_module : (ty : Bool) (r : Resolved) (binds' : List ℕ) → ModuleDone (m - 1) s binds r binds' → NamedDone name ty s (mem binds w t) r (mem binds' w t)
       unfolding looked outer beyond
-      name-module ty r binds' d = record { right = λ g. rw (no_local g, placed g) (d.right (to-module g)) }
+      name_module ty r binds' d = record { right = λ g. rw (no_local g, placed g) (d.right (to_module g)) }
 
     -- a global, or nothing
     module _ (k : m ≤ 0) where
       unplaced : (g : Named name s (mem binds w t)) → place name g.W.mods ≡ none
-      unplaced g = plus_none (place name g.W.mods) m (e-m ∙ g.rel.names.in-module name g.known) k
+      unplaced g = plus_none (place name g.W.mods) m (e-m ∙ g.rel.names.in_module name g.known) k
 
-      pub name-global : (ty : Bool) (x : Resolution) → x ≡ asGlobal (get_or t (2048 + name) 0) → NamedDone name ty s (mem binds w t) (record { st = s; res = x }) (mem binds w t)
-      unfolding looked outer beyond globally plus asGlobal resOf Small FoundBelow OuterBelow capturesFound capturesOuter
-      name-global ty x e = record { right = λ g. rw (no_local g, unplaced g) (go g (opened (place name g.W.F.globals))) }
+      pub name_global : (ty : Bool) (x : Resolution) → x ≡ as_global (get_or t (2048 + name) 0) → NamedDone name ty s (mem binds w t) (record { st = s; res = x }) (mem binds w t)
+      unfolding looked outer beyond globally plus as_global res_of Small FoundBelow OuterBelow captures_found captures_outer
+      name_global ty x e = record { right = λ g. rw (no_local g, unplaced g) (go g (opened (place name g.W.F.globals))) }
         where
-          held : (g : Named name s (mem binds w t)) → x ≡ asGlobal (plus (place name g.W.F.globals))
-          held g = e ∙ ap asGlobal (g.rel.names.in-globals name g.known)
+          held : (g : Named name s (mem binds w t)) → x ≡ as_global (plus (place name g.W.F.globals))
+          held g = e ∙ ap as_global (g.rel.names.in_globals name g.known)
 
           -- what captures nothing
-          found : (g : Named name s (mem binds w t)) (o : Outer) → x ≡ resOf g.W.M (outside o) → ((i : ℕ) → capturesFound i g.ss (outside o) ≡ false) → Small g.W.M (outside o) → FoundBelow (length g.st.made) (outside o)
+          found : (g : Named name s (mem binds w t)) (o : Outer) → x ≡ res_of g.W.M (outside o) → ((i : ℕ) → captures_found i g.ss (outside o) ≡ false) → Small g.W.M (outside o) → FoundBelow (length g.st.made) (outside o)
               → Found' g.W g.env g.ss (caps g.st) (outside o, g.st) (record { st = s; res = x }) (mem binds w t)
           found g o q c small below =
               record {
-                rel = record { over = λ f. never_both f g.not_full; rel = λ _. rel-caps g.rel _ (λ i. sym (rw (c i) (or-false (caps g.st i)))) };
+                rel = record { over = λ f. never_both f g.not_full; rel = λ _. rel_caps g.rel _ (λ i. sym (rw (c i) (or-false (caps g.st i)))) };
                 is = λ _. q;
                 small = λ _. small;
                 below = λ _. below;
@@ -139,4 +139,4 @@ module _ {name : ℕ} {s : State} {binds w t : List ℕ} (b : ℕ) (e-b : b ≡ 
           go g (absent q) = rw q (found g missing (rw q at (held g)) (λ _. refl) tt tt)
           go g (present i q) =
               let y : i + 1 ≡ suc i = omega arith in
-              rw q (found g (global i) (rw (q, y) at (held g)) (λ _. refl) (omega (arith, place-below name g.W.F.globals i q, g.settled.few-globals)) tt)
+              rw q (found g (global i) (rw (q, y) at (held g)) (λ _. refl) (omega (arith, place-below name g.W.F.globals i q, g.settled.few_globals)) tt)

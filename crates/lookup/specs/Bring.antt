@@ -3,7 +3,7 @@ use Rattle.std.specs.Prelude.{ℕ, ◌+◌, ◌<◌, ◌≤◌, ◌≡◌, Bool,
 use Rattle.std.proofs.Math.Option.{some}
 use Rattle.std.proofs.Math.ListN.{get_elem?}
 use Rattle.lexical.specs.State.{Binding, St}
-use Rattle.lexical.specs.Third.{bring, copyIn}
+use Rattle.lexical.specs.Third.{bring, copy_in}
 use Rattle.store.specs.declared.ids.State.{State}
 use Rattle.store.specs.declared.ids.Brought.{Brought}
 use Rattle.store.specs.Sections.{Mem}
@@ -28,11 +28,11 @@ pub record Copying (scope parent id : ℕ) (s : State) (m : Mem) : Type 0 where
   pub not_full : s.full ≡ false
   pub stands : get_elem? st.made b.id ≡ some b
   pub number : id ≡ b.id
-  pub scope-small : scope < 256
-  pub parent-small : parent < 4096
+  pub scope_small : scope < 256
+  pub parent_small : parent < 4096
 
 pub record Copied (scope parent id : ℕ) (s : State) (m : Mem) (r : Brought) (m' : Mem) : Type 0 where
-  pub right : (g : Copying scope parent id s m) → Reached g.W g.env g.ss g.cap (copyIn scope g.b (parent, g.st)) r m'
+  pub right : (g : Copying scope parent id s m) → Reached g.W g.env g.ss g.cap (copy_in scope g.b (parent, g.st)) r m'
 
 -- binding b is brought to the scope at `level`; inner: that scope and those around it
 pub record Bringing (level id : ℕ) (s : State) (m : Mem) : Type 0 where
@@ -49,7 +49,7 @@ pub record Bringing (level id : ℕ) (s : State) (m : Mem) : Type 0 where
   pub local : b.local ≡ true
   pub number : id ≡ b.id
   pub stack : Stacked inner m.t
-  pub level-is : level + 1 ≡ length inner
+  pub level_is : level + 1 ≡ length inner
   pub low : length inner ≤ 127
 
 pub record Brings (level id : ℕ) (s : State) (m : Mem) (r : Brought) (m' : Mem) : Type 0 where

@@ -7,8 +7,8 @@ use Rattle.lexical.specs.Tree.{top}
 use Rattle.lexical.specs.Module.{Outer, module', global, missing, outer}
 use Rattle.lexical.specs.State.{Binding, St, Found, local, refused, outside}
 use Rattle.lexical.specs.Block.{called}
-use Rattle.lexical.specs.Third.{bring, logged, lookFound}
-use Rattle.lexical.specs.Records.{capturesFound, slot_of}
+use Rattle.lexical.specs.Third.{bring, logged, look_found}
+use Rattle.lexical.specs.Records.{captures_found, slot_of}
 use Rattle.lexical.specs.Code.Adds.{FoundBelow}
 use Rattle.store.specs.declared.ids.State.{State}
 use Rattle.store.specs.declared.ids.Resolved.{Resolved}
@@ -16,17 +16,17 @@ use Rattle.store.specs.declared.ids.Resolution.{Resolution}
 use Rattle.store.specs.declared.ids.Resolution.TheVariants as res
 use Rattle.store.specs.declared.ids.Slot.{Slot}
 use Rattle.store.specs.declared.ids.Slot.TheVariants as slot
-use Rattle.store.specs.Words.{answerWord, pairWord}
+use Rattle.store.specs.Words.{answer_word, pair_word}
 use Rattle.store.specs.Sections.{Mem, mem}
 use Rattle.store.specs.Rel.{World, Rel, RC, R, caps}
 
 -- document 01's "a local or module slot, a global, or one of the two errors", of what `lexical` finds; M: the module's bindings
-unfoldable pub resOf : List Binding → Found → Resolution
-resOf M (local b k) = res.Slot (slot.Local (record { 0 = k })) (record { 0 = b.id })
-resOf M (refused b k) = res.LocalInType
-resOf M (outside (module' i)) = res.Slot (slot.Module (record { 0 = slot_of (get_elem? M i) })) (record { 0 = i })
-resOf M (outside (global g)) = res.Global g
-resOf M (outside missing) = res.NotFound
+unfoldable pub res_of : List Binding → Found → Resolution
+res_of M (local b k) = res.Slot (slot.Local (record { 0 = k })) (record { 0 = b.id })
+res_of M (refused b k) = res.LocalInType
+res_of M (outside (module' i)) = res.Slot (slot.Module (record { 0 = slot_of (get_elem? M i) })) (record { 0 = i })
+res_of M (outside (global g)) = res.Global g
+res_of M (outside missing) = res.NotFound
 
 -- what a lookup finds, and the state after it, before it is logged
 unfoldable pub looked : Option Binding → Outer → List ℕ → Bool → St → Found × St
@@ -34,30 +34,30 @@ looked none o ss ty st = (outside o, st)
 looked (some b) o ss ty st = let r = bring ss b st in (cond ty (refused b r.0) (local b r.0), r.1)
 
 -- the bindings that count as captured once f is found
-abbrev pub capsWith : (ℕ → Bool) → List ℕ → Found → ℕ → Bool
-capsWith cap ss f i = cap i || capturesFound i ss f
+abbrev pub caps_with : (ℕ → Bool) → List ℕ → Found → ℕ → Bool
+caps_with cap ss f i = cap i || captures_found i ss f
 
 -- a global's number (+ 1), or 0
-unfoldable pub asGlobal : ℕ → Resolution
-asGlobal zero = res.NotFound
-asGlobal (suc g) = res.Global g
+unfoldable pub as_global : ℕ → Resolution
+as_global zero = res.NotFound
+as_global (suc g) = res.Global g
 
 -- a slot that fits its record, and the record
 abbrev pub SmallSlot : Slot → Type 0
 SmallSlot (slot.Module k) = k.0 < 32768
 SmallSlot (slot.Local k) = k.0 < 32768
 
-abbrev pub slotAnswer : Slot → ℕ → ℕ
-slotAnswer (slot.Module k) id = answerWord 1 k.0 id
-slotAnswer (slot.Local k) id = answerWord 2 k.0 id
+abbrev pub slot_answer : Slot → ℕ → ℕ
+slot_answer (slot.Module k) id = answer_word 1 k.0 id
+slot_answer (slot.Local k) id = answer_word 2 k.0 id
 
 -- an error more, or no room for it
 pub record ErrorAdded (at code : ℕ) (s : State) (w : List ℕ) (r : State) (w' : List ℕ) : Type 0 where
-  pub bindings-stay : r.bindings ≡ s.bindings
-  pub slots-stay : r.slots ≡ s.slots
-  pub copies-stay : r.copies ≡ s.copies
-  pub level-stays : r.level ≡ s.level
-  pub kept : s.errors < 2048 → (w' ≡ set w (10240 + s.errors) (pairWord at code)) × (r.errors ≡ s.errors + 1) × (r.full ≡ s.full)
+  pub bindings_stay : r.bindings ≡ s.bindings
+  pub slots_stay : r.slots ≡ s.slots
+  pub copies_stay : r.copies ≡ s.copies
+  pub level_stays : r.level ≡ s.level
+  pub kept : s.errors < 2048 → (w' ≡ set w (10240 + s.errors) (pair_word at code)) × (r.errors ≡ s.errors + 1) × (r.full ≡ s.full)
   pub none_left : 2048 ≤ s.errors → r.full ≡ true
 
 -- what found numbers are below, so that their record holds them
@@ -70,9 +70,9 @@ Small M (outside missing) = Unit {0}
 
 -- the module's names have bindings, and a function's variables are its own
 pub record Settled (W : World) : Type 0 where
-  pub mods-made : length W.mods ≤ length W.M
+  pub mods_made : length W.mods ≤ length W.M
   pub owners : (s k : ℕ) (b : Binding) → get_elem? (W.D s) k ≡ some b → b.owner ≡ s
-  pub few-globals : length W.F.globals ≤ 256
+  pub few_globals : length W.F.globals ≤ 256
 
 -- a local b, whose capture is noted
 pub record Capturing (id level : ℕ) (binds t : List ℕ) : Type 0 where
@@ -87,7 +87,7 @@ pub record Capturing (id level : ℕ) (binds t : List ℕ) : Type 0 where
   pub rel : Rel W env ss cap st s (mem binds w t)
   pub stands : get_elem? st.made b.id ≡ some b
   pub number : id ≡ b.id
-  pub level-is : level ≡ s.level
+  pub level_is : level ≡ s.level
 
 pub record Captured (id level : ℕ) (binds t binds' : List ℕ) : Type 0 where
   pub right : (g : Capturing id level binds t)
@@ -108,8 +108,8 @@ pub record Locally (id : ℕ) (s : State) (m : Mem) : Type 0 where
 
 -- the answer is what x says
 pub record Found' (W : World) (env : List Binding) (ss : List ℕ) (cap : ℕ → Bool) (x : Found × St) (r : Resolved) (m' : Mem) : Type 0 where
-  pub rel : RC W env ss (capsWith cap ss x.0) x.1 r.st m'
-  pub is : r.st.full ≡ false → r.res ≡ resOf W.M x.0
+  pub rel : RC W env ss (caps_with cap ss x.0) x.1 r.st m'
+  pub is : r.st.full ≡ false → r.res ≡ res_of W.M x.0
   pub small : r.st.full ≡ false → Small W.M x.0
   pub below : r.st.full ≡ false → FoundBelow (length x.1.made) x.0
 
@@ -156,9 +156,9 @@ pub record Keeping (at : ℕ) (r : Resolution) (s : State) (w : List ℕ) : Type
   pub f : Found
   pub binds : List ℕ
   pub t : List ℕ
-  pub rel : Rel W env ss (capsWith (caps st) ss f) st s (mem binds w t)
+  pub rel : Rel W env ss (caps_with (caps st) ss f) st s (mem binds w t)
   pub not_full : s.full ≡ false
-  pub is : r ≡ resOf W.M f
+  pub is : r ≡ res_of W.M f
   pub small : Small W.M f
   pub below : FoundBelow (length st.made) f
   pub node : at < 2048
@@ -180,4 +180,4 @@ pub record Ident (name at : ℕ) (s : State) (m : Mem) : Type 0 where
 pub record IdentDone (name at : ℕ) (ty : Bool) (s : State) (m : Mem) (r : State) (m' : Mem) : Type 0 where
   pub right : (g : Ident name at s m)
       → R g.W g.env g.ss
-      (lookFound (first (called name) g.env) (outer g.W.mods g.W.F.globals name) at name (record { env = g.env; scopes = g.ss; ty = ty }) g.st) r m'
+      (look_found (first (called name) g.env) (outer g.W.mods g.W.F.globals name) at name (record { env = g.env; scopes = g.ss; ty = ty }) g.st) r m'

@@ -1,6 +1,6 @@
 // Into a Def or a Lambda, and out of it.
 ghost use Rattle.std.specs.Prelude.{◌≡◌, ◌≤◌, length};
-ghost use Rattle.store.specs.Sections.{manyBindings, tLength};
+ghost use Rattle.store.specs.Sections.{many_bindings, t_length};
 ghost use Rattle.lookup.specs.Enter.{Entering, Entered, Leaving, Left};
 
 use store::State;
@@ -20,7 +20,7 @@ fn at_level(st: State, level: usize) -> State
 
 // Its variables come into reach, innermost.
 pub fn enter_def(scope: usize, st: State, binds: &[u64], t: &mut [u16]) -> State
-    requires { (manyBindings ≤ length binds.now) × (length t.old ≡ tLength) × Entering scope st binds.now t.old }
+    requires { (many_bindings ≤ length binds.now) × (length t.old ≡ t_length) × Entering scope st binds.now t.old }
     ensures { Entered scope st binds.now t.old result t.new }
 {
     if st.full {
@@ -36,7 +36,7 @@ pub fn enter_def(scope: usize, st: State, binds: &[u64], t: &mut [u16]) -> State
 
 // They go out of reach.
 pub fn exit_def(scope: usize, st: State, binds: &[u64], t: &mut [u16]) -> State
-    requires { (manyBindings ≤ length binds.now) × (length t.old ≡ tLength) × Leaving scope st binds.now t.old }
+    requires { (many_bindings ≤ length binds.now) × (length t.old ≡ t_length) × Leaving scope st binds.now t.old }
     ensures { Left scope st binds.now t.old result t.new }
 {
     if st.full {

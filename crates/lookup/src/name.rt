@@ -1,7 +1,7 @@
 // A name is looked up: the scopes inside out, then the module, then the globals; and the outcome is kept.
 ghost use Rattle.std.specs.Prelude.{◌≡◌, ◌+◌, ◌≤◌, ◌<◌, length, get_or, set};
-ghost use Rattle.store.specs.Sections.{mem, Long, globAt, manyBindings, manyNames, manyNodes, manySlotNumbers, tLength, wLength};
-ghost use Rattle.lookup.specs.Lookup.{Capturing, Captured, Locally, LocalDone, InModule, ModuleDone, Named, NamedDone, Keeping, Kept, Ident, IdentDone, asGlobal, SmallSlot, slotAnswer, ErrorAdded};
+ghost use Rattle.store.specs.Sections.{mem, Long, glob_at, many_bindings, many_names, many_nodes, many_slot_numbers, t_length, w_length};
+ghost use Rattle.lookup.specs.Lookup.{Capturing, Captured, Locally, LocalDone, InModule, ModuleDone, Named, NamedDone, Keeping, Kept, Ident, IdentDone, as_global, SmallSlot, slot_answer, ErrorAdded};
 
 use crate::bring;
 use answer::{BindingId, ModuleSlotId};
@@ -21,7 +21,7 @@ const LOCAL_IN_TYPE: usize = 2;
 
 // A local that another scope owns is captured.
 fn capture_local(id: usize, level: usize, binds: &mut [u64], t: &[u16])
-    requires { (manyBindings ≤ length binds.old) × (length t.now ≡ tLength) × Capturing id level binds.old t.now }
+    requires { (many_bindings ≤ length binds.old) × (length t.now ≡ t_length) × Capturing id level binds.old t.now }
     ensures { Captured id level binds.old t.now binds.new }
 {
     if store::owner(t, id) != store::scope_at_level(t, level) {
@@ -59,7 +59,7 @@ fn get_local(
 
 // A module name: captured inside a function.
 fn get_module(id: BindingId, st: State, binds: &mut [u64]) -> Resolved
-    requires { (manyBindings ≤ length binds.old) × InModule id.0 st binds.old }
+    requires { (many_bindings ≤ length binds.old) × InModule id.0 st binds.old }
     ensures { ModuleDone id.0 st binds.old result binds.new }
 {
     let slot = store::slot_of(binds, id.0);
@@ -73,8 +73,8 @@ fn get_module(id: BindingId, st: State, binds: &mut [u64]) -> Resolved
 
 // A global, or nothing.
 fn get_global(name: usize, t: &[u16]) -> Resolution
-    requires { (name < manyNames) × (length t.now ≡ tLength) }
-    ensures { result ≡ asGlobal (get_or t.now (globAt + name) 0) }
+    requires { (name < many_names) × (length t.now ≡ t_length) }
+    ensures { result ≡ as_global (get_or t.now (glob_at + name) 0) }
 {
     let g = store::global(t, name);
     if g > 0 {
@@ -108,8 +108,8 @@ fn get_name(
 }
 
 fn put_slot(at: usize, slot: Slot, id: BindingId, w: &mut [u32])
-    requires { (at < manyNodes) × SmallSlot slot × (id.0 < manySlotNumbers) × (length w.old ≡ wLength) }
-    ensures { w.new ≡ set w.old at (slotAnswer slot id.0) }
+    requires { (at < many_nodes) × SmallSlot slot × (id.0 < many_slot_numbers) × (length w.old ≡ w_length) }
+    ensures { w.new ≡ set w.old at (slot_answer slot id.0) }
 {
     match slot {
         Slot::Module(k) => store::put_answer(w, at, MODULE, k.0, id.0),
@@ -119,7 +119,7 @@ fn put_slot(at: usize, slot: Slot, id: BindingId, w: &mut [u32])
 
 // An error, if there is room for it.
 fn add_error(at: usize, code: usize, st: State, w: &mut [u32]) -> State
-    requires { (at < manyNodes) × (code < 3) × (length w.old ≡ wLength) }
+    requires { (at < many_nodes) × (code < 3) × (length w.old ≡ w_length) }
     ensures { ErrorAdded at code st w.old result w.new }
 {
     let e = st.errors;
@@ -146,7 +146,7 @@ fn add_error(at: usize, code: usize, st: State, w: &mut [u32]) -> State
 
 // What an identifier came to, in its node's record or among the errors.
 fn put_resolution(at: usize, res: Resolution, st: State, w: &mut [u32]) -> State
-    requires { (length w.old ≡ wLength) × Keeping at res st w.old }
+    requires { (length w.old ≡ w_length) × Keeping at res st w.old }
     ensures { Kept at res st w.old result w.new }
 {
     match res {

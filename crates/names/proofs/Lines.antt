@@ -6,23 +6,23 @@ use mathlib.Core.List.{List, [], ◌∷◌, ◌++◌}
 use native.Mathlib.Omega.{arith}
 use lib.ListN.{length, get_or, set, replicate, length-set, length-replicate}
 use native.Mathlib.Numerals.{add-one}
-use Rattle.base.specs.UpTo.{up_to, upTo-snoc, upTo-front}
-use Rattle.lexical.specs.Places.{In, Distinct, in-snoc, in_left, in_right, distinct-left}
-use Rattle.nodefile.specs.Layout.{nameCount}
-use Rattle.nodefile.specs.FileOf.{entryNames, globalNames}
-use Rattle.names.specs.Lists.{BadList, no-such-name, twice, BadLists, bad-entry, bad-global}
-use Rattle.marks.specs.Marks.{Marked, Set, zeros, marked-none, marked_more, marked-again}
+use Rattle.base.specs.UpTo.{up_to, up_to_snoc, up_to_front}
+use Rattle.lexical.specs.Places.{In, Distinct, in_snoc, in_left, in_right, distinct_left}
+use Rattle.nodefile.specs.Layout.{name_count}
+use Rattle.nodefile.specs.FileOf.{entry_names, global_names}
+use Rattle.names.specs.Lists.{BadList, no_such_name, twice, BadLists, bad_entry, bad_global}
+use Rattle.marks.specs.Marks.{Marked, Set, zeros, marked_none, marked_more, marked_again}
 
 -- line k and the lines before it
 module _ (f : ℕ → ℕ) (k n : ℕ) (h : k < n) where
   front : (ys : List ℕ) × (up_to f n ≡ (up_to f k ++ (f k ∷ [])) ++ ys)
-  front = let r = upTo-front f (suc k) n h in (r.0, r.1 ∙ ap (λ (l : List ℕ). l ++ r.0) (upTo-snoc f k))
+  front = let r = up_to_front f (suc k) n h in (r.0, r.1 ∙ ap (λ (l : List ℕ). l ++ r.0) (up_to_snoc f k))
 
-  pub upTo-in : In (f k) (up_to f n)
-  upTo-in = subst (In (f k)) (sym front.1) (in_left (f k) (up_to f k ++ (f k ∷ [])) front.0 (in_right (f k) (up_to f k) (f k ∷ []) (inl refl)))
+  pub up_to_in : In (f k) (up_to f n)
+  up_to_in = subst (In (f k)) (sym front.1) (in_left (f k) (up_to f k ++ (f k ∷ [])) front.0 (in_right (f k) (up_to f k) (f k ∷ []) (inl refl)))
 
-  pub upTo-distinct : Distinct (up_to f n) → Distinct (up_to f k ++ (f k ∷ []))
-  upTo-distinct d = distinct-left (up_to f k ++ (f k ∷ [])) front.0 (subst Distinct front.1 d)
+  pub up_to_distinct : Distinct (up_to f n) → Distinct (up_to f k ++ (f k ∷ []))
+  up_to_distinct d = distinct_left (up_to f k ++ (f k ∷ [])) front.0 (subst Distinct front.1 d)
 
 -- the marks after k lines
 pub record Lines (names : ℕ) (seen : List ℕ) (f : ℕ → ℕ) (k : ℕ) : Type 0 where
@@ -32,31 +32,31 @@ pub record Lines (names : ℕ) (seen : List ℕ) (f : ℕ → ℕ) (k : ℕ) : T
 
 pub lines_none : (names : ℕ) (f : ℕ → ℕ) → Lines names (replicate 1024 0) f 0
 unfolding up_to
-lines_none names f = record { size = length-replicate {A = ℕ} 1024 0; known = λ x h. absurd h; marks = marked-none _ (λ v h. h (zeros 1024 v)) }
+lines_none names f = record { size = length-replicate {A = ℕ} 1024 0; known = λ x h. absurd h; marks = marked_none _ (λ v h. h (zeros 1024 v)) }
 
 module _ {names : ℕ} {seen : List ℕ} {f : ℕ → ℕ} {k : ℕ} (l : Lines names seen f k) where
   -- line k has a known name, which is not marked
   pub lines_more : {v : ℕ} → v ≡ f k → v < names → names ≤ 1024 → get_or seen v 0 ≡ 0 → Lines names (set seen v 1) f (k + 1)
   lines_more {v} e h b u =
-      let more : up_to f (k + 1) ≡ up_to f k ++ (v ∷ []) = ap (up_to f) (add-one k) ∙ upTo-snoc f k ∙ ap (λ (x : ℕ). up_to f k ++ (x ∷ [])) (sym e) in
+      let more : up_to f (k + 1) ≡ up_to f k ++ (v ∷ []) = ap (up_to f) (add-one k) ∙ up_to_snoc f k ∙ ap (λ (x : ℕ). up_to f k ++ (x ∷ [])) (sym e) in
       record {
         size = length-set seen v 1 ∙ l.size;
-        known = λ x i. ⊎_elim (l.known x) (λ q. omega arith) (in-snoc x v (up_to f k) (subst (In x) more i));
+        known = λ x i. ⊎_elim (l.known x) (λ q. omega arith) (in_snoc x v (up_to f k) (subst (In x) more i));
         marks = subst (Marked Set (set seen v 1)) (sym more) (marked_more l.marks v 1 (omega (arith, l.size)) (λ q. omega arith) (λ n. n u));
       }
 
   -- its name is marked
-  pub lines-twice : {v : ℕ} (n : ℕ) → v ≡ f k → k < n → (get_or seen v 0 ≡ 0 → ⊥) → BadList names (up_to f n)
-  lines-twice {v} n e h u = twice (λ d. marked-again l.marks v u [] (subst (λ (x : ℕ). Distinct (up_to f k ++ (x ∷ []))) (sym e) (upTo-distinct f k n h d)))
+  pub lines_twice : {v : ℕ} (n : ℕ) → v ≡ f k → k < n → (get_or seen v 0 ≡ 0 → ⊥) → BadList names (up_to f n)
+  lines_twice {v} n e h u = twice (λ d. marked_again l.marks v u [] (subst (λ (x : ℕ). Distinct (up_to f k ++ (x ∷ []))) (sym e) (up_to_distinct f k n h d)))
 
-  pub lines-all : (n : ℕ) → k ≡ n → BadList names (up_to f n) → ⊥
-  lines-all n e (no-such-name x i h) = omega (arith, l.known x (subst (λ (m : ℕ). In x (up_to f m)) (sym e) i))
-  lines-all n e (twice g) = g (subst (λ (m : ℕ). Distinct (up_to f m)) e l.marks.apart)
+  pub lines_all : (n : ℕ) → k ≡ n → BadList names (up_to f n) → ⊥
+  lines_all n e (no_such_name x i h) = omega (arith, l.known x (subst (λ (m : ℕ). In x (up_to f m)) (sym e) i))
+  lines_all n e (twice g) = g (subst (λ (m : ℕ). Distinct (up_to f m)) e l.marks.apart)
 
-pub lines-unknown : {names v : ℕ} (f : ℕ → ℕ) (k n : ℕ) → v ≡ f k → k < n → names ≤ v → BadList names (up_to f n)
-lines-unknown f k n e h u = no-such-name (f k) (upTo-in f k n h) (omega arith)
+pub lines_unknown : {names v : ℕ} (f : ℕ → ℕ) (k n : ℕ) → v ≡ f k → k < n → names ≤ v → BadList names (up_to f n)
+lines_unknown f k n e h u = no_such_name (f k) (up_to_in f k n h) (omega arith)
 
 -- neither list is at fault
-pub no-lists : {bs : List ℕ} → (BadList (nameCount bs) (entryNames bs) → ⊥) → (BadList (nameCount bs) (globalNames bs) → ⊥) → BadLists bs → ⊥
-no-lists f g (bad-entry h) = f h
-no-lists f g (bad-global h) = g h
+pub no_lists : {bs : List ℕ} → (BadList (name_count bs) (entry_names bs) → ⊥) → (BadList (name_count bs) (global_names bs) → ⊥) → BadLists bs → ⊥
+no_lists f g (bad_entry h) = f h
+no_lists f g (bad_global h) = g h

@@ -4,12 +4,12 @@ mod names;
 
 ghost use Rattle.base.specs.First.{First};
 ghost use Rattle.header.specs.Header.{HeaderOk};
-ghost use Rattle.names.specs.Rows.{nameRows};
+ghost use Rattle.names.specs.Rows.{name_rows};
 
 // Numbers 5 and 6, of a file that 2 to 4 let pass.
 pub fn judge_names(file: &[u8]) -> u64
     requires { HeaderOk file.now }
-    ensures { First (nameRows file.now) result }
+    ensures { First (name_rows file.now) result }
 {
     let known = nodefile::name_count(file);
     let names = nodefile::names(file);

@@ -2,7 +2,7 @@
 ghost use Rattle.std.specs.Prelude.{◌≡◌, ◌≤◌};
 ghost use Rattle.base.specs.Says.{Says};
 ghost use Rattle.base.specs.UpTo.{up_to};
-ghost use Rattle.nodefile.specs.Limits.{manyNames};
+ghost use Rattle.nodefile.specs.Limits.{many_names};
 ghost use Rattle.names.specs.Lists.{BadList};
 ghost use Rattle.names.specs.Inside.Line.{line_of};
 
@@ -20,7 +20,7 @@ fn line(part: &[u8], entries: bool, k: usize) -> u64
 
 // Whether one of the n lines has no such name, or a name stands twice among them.
 pub fn bad_list(part: &[u8], entries: bool, n: usize, names: u64) -> bool
-    requires { (n ≤ 256) × (names ≤ manyNames) }
+    requires { (n ≤ 256) × (names ≤ many_names) }
     ensures { Says result (BadList names (up_to (line_of part.now entries) n)) }
 {
     let mut seen = [0u8; MOST_NAMES];

@@ -1,15 +1,15 @@
 // Number 5: the names.
 ghost use Rattle.std.specs.Prelude.{◌≡◌, ◌≤◌, ◌<◌};
 ghost use Rattle.base.specs.Says.{Says};
-ghost use Rattle.nodefile.specs.Limits.{manyNames};
+ghost use Rattle.nodefile.specs.Limits.{many_names};
 ghost use Rattle.names.specs.Names.{BadNames};
-ghost use Rattle.names.specs.Inside.Chain.{hashOf, Links, Met};
+ghost use Rattle.names.specs.Inside.Chain.{hash_of, Links, Met};
 
 const MOST_NAMES: usize = 1024;
 
 // A number below 1,024 for a spelling: two spellings with different numbers differ.
 fn hash(s: &[u8]) -> usize
-    ensures { (result ≡ hashOf s.now) × (result < manyNames) }
+    ensures { (result ≡ hash_of s.now) × (result < many_names) }
 {
     let mut h: usize = 0;
     let mut i: usize = 0;
@@ -22,7 +22,7 @@ fn hash(s: &[u8]) -> usize
 
 // Whether a name on the chain that starts at a link is spelled s.
 fn met(nm: &[u8], pool: &[u8], links: &[u16; MOST_NAMES], from: usize, s: &[u8]) -> bool
-    requires { Links links.now × (from ≤ manyNames) }
+    requires { Links links.now × (from ≤ many_names) }
     ensures { Says result (Met nm.now pool.now links.now from s.now) }
 {
     let mut k = from;
@@ -38,7 +38,7 @@ fn met(nm: &[u8], pool: &[u8], links: &[u16; MOST_NAMES], from: usize, s: &[u8])
 
 // Whether one of the n names is empty, past the pool, or spelled as an earlier one.
 pub fn bad_names(nm: &[u8], pool: &[u8], n: usize) -> bool
-    requires { n ≤ manyNames }
+    requires { n ≤ many_names }
     ensures { Says result (BadNames n nm.now pool.now) }
 {
     let mut heads = [0u16; MOST_NAMES];

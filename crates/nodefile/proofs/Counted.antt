@@ -24,5 +24,5 @@ module _ {p : ℕ → Bool} {i s : ℕ} (m : Counted p i s) where
   unfolding tally
   counted-not e = record { few = omega (arith, m.few); is = rw (add-one i) (simp (e) m.is) }
 
-  pub counted-end : {n : ℕ} → i ≤ n → n ≤ i → s ≡ tally p n
-  counted-end {n} h l = let e : i ≡ n = omega arith in rw (← e) m.is
+  pub counted_end : {n : ℕ} → i ≤ n → n ≤ i → s ≡ tally p n
+  counted_end {n} h l = let e : i ≡ n = omega arith in rw (← e) m.is

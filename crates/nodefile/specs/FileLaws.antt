@@ -3,32 +3,32 @@ use Rattle.std.specs.Prelude.{ℕ, ◌<◌, ◌≡◌, List, length}
 use Rattle.std.proofs.Math.Option.{some}
 use Rattle.std.proofs.Common.{arith}
 use Rattle.std.proofs.Math.ListN.{get_elem?}
-use Rattle.base.specs.UpTo.{upTo-at, upTo-length}
+use Rattle.base.specs.UpTo.{up_to_at, up_to_length}
 use Rattle.lexical.specs.Places.{In}
-use Rattle.lexical.specs.Tree.{Forest, nodesIn}
-use Rattle.nodefile.specs.Layout.{nodeCount, entryCount, globalCount, fileLength, nodesOf, entriesOf, globals_of, nodes-length}
-use Rattle.nodefile.specs.Lists.{globalName}
-use Rattle.nodefile.specs.Reads.{Reads, count_of, reads-length}
-use Rattle.nodefile.specs.Listed.{nodes-below}
-use Rattle.nodefile.specs.FileOf.{entry_of, fileOf}
+use Rattle.lexical.specs.Tree.{Forest, nodes_in}
+use Rattle.nodefile.specs.Layout.{node_count, entry_count, global_count, file_length, nodes_of, entries_of, globals_of, nodes_length}
+use Rattle.nodefile.specs.Lists.{global_name}
+use Rattle.nodefile.specs.Reads.{Reads, count_of, reads_length}
+use Rattle.nodefile.specs.Listed.{nodes_below}
+use Rattle.nodefile.specs.FileOf.{entry_of, file_of}
 
 module _ (bs : List ℕ) (root : Forest) where
-  pub entries-count : length (fileOf bs root).entries ≡ entryCount bs
-  entries-count = upTo-length (entry_of (entriesOf bs)) (entryCount bs)
+  pub entries_count : length (file_of bs root).entries ≡ entry_count bs
+  entries_count = up_to_length (entry_of (entries_of bs)) (entry_count bs)
 
-  pub entries_at : (k : ℕ) → k < entryCount bs → get_elem? (fileOf bs root).entries k ≡ some (entry_of (entriesOf bs) k)
-  entries_at k h = upTo-at (entry_of (entriesOf bs)) (entryCount bs) k h
+  pub entries_at : (k : ℕ) → k < entry_count bs → get_elem? (file_of bs root).entries k ≡ some (entry_of (entries_of bs) k)
+  entries_at k h = up_to_at (entry_of (entries_of bs)) (entry_count bs) k h
 
-  pub globals-count : length (fileOf bs root).globals ≡ globalCount bs
-  globals-count = upTo-length (globalName (globals_of bs)) (globalCount bs)
+  pub globals_count : length (file_of bs root).globals ≡ global_count bs
+  globals_count = up_to_length (global_name (globals_of bs)) (global_count bs)
 
-  pub globals-at : (k : ℕ) → k < globalCount bs → get_elem? (fileOf bs root).globals k ≡ some (globalName (globals_of bs) k)
-  globals-at k h = upTo-at (globalName (globals_of bs)) (globalCount bs) k h
+  pub globals_at_lem : (k : ℕ) → k < global_count bs → get_elem? (file_of bs root).globals k ≡ some (global_name (globals_of bs) k)
+  globals_at_lem k h = up_to_at (global_name (globals_of bs)) (global_count bs) k h
 
   -- its tree has as many nodes as the header says, numbered from 0
-  module _ (exact : length bs ≡ fileLength bs) (r : Reads (nodesOf bs) 0 root) where
-    pub tree-count : count_of root ≡ nodeCount bs
-    tree-count = omega (arith, reads-length root (nodesOf bs) 0 r, nodes-length bs exact)
+  module _ (exact : length bs ≡ file_length bs) (r : Reads (nodes_of bs) 0 root) where
+    pub tree_count : count_of root ≡ node_count bs
+    tree_count = omega (arith, reads_length root (nodes_of bs) 0 r, nodes_length bs exact)
 
-    pub tree-below : (x : ℕ) → In x (nodesIn root) → x < nodeCount bs
-    tree-below x m = omega (arith, tree-count, nodes-below root (nodesOf bs) 0 r x m)
+    pub tree_below : (x : ℕ) → In x (nodes_in root) → x < node_count bs
+    tree_below x m = omega (arith, tree_count, nodes_below root (nodes_of bs) 0 r x m)

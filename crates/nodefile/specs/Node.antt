@@ -6,8 +6,8 @@ use Rattle.bits.specs.Field.{field_of}
 abbrev pub kind_of : List ℕ → ℕ
 kind_of t = field_of t 0 5
 
-abbrev pub nodeZero : List ℕ → ℕ
-nodeZero t = field_of t 5 3
+abbrev pub node_zero : List ℕ → ℕ
+node_zero t = field_of t 5 3
 
 abbrev pub size_of : List ℕ → ℕ
 size_of t = field_of t 8 16

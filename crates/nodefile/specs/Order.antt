@@ -12,7 +12,7 @@ use Rattle.lexical.specs.Places.{at_left}
 use Rattle.bits.specs.FieldLaws.{field-take}
 use Rattle.lexical.specs.Tree.{Forest, nil, node}
 use Rattle.nodefile.specs.Node.{kind_of, value_of, size_of, below, after}
-use Rattle.nodefile.specs.Reads.{Reads, count_of, reads-size}
+use Rattle.nodefile.specs.Reads.{Reads, count_of, reads_size}
 
 pub record Spot : Type 0 where
   pub number : ℕ
@@ -20,14 +20,14 @@ pub record Spot : Type 0 where
   pub value : ℕ
   pub kids : Forest
 
-unfoldable pub spotsIn : Forest → List Spot
-spotsIn nil = []
-spotsIn (node a k v kids rest) = record { number = a; kind = k; value = v; kids = kids } ∷ (spotsIn kids ++ spotsIn rest)
+unfoldable pub spots_in : Forest → List Spot
+spots_in nil = []
+spots_in (node a k v kids rest) = record { number = a; kind = k; value = v; kids = kids } ∷ (spots_in kids ++ spots_in rest)
 
-pub spots-count : (f : Forest) → length (spotsIn f) ≡ count_of f
-unfolding spotsIn
-spots-count nil = refl
-spots-count (node a k v ks rs) = omega (arith, length-append (spotsIn ks) (spotsIn rs), spots-count ks, spots-count rs)
+pub spots_count : (f : Forest) → length (spots_in f) ≡ count_of f
+unfolding spots_in
+spots_count nil = refl
+spots_count (node a k v ks rs) = omega (arith, length-append (spots_in ks) (spots_in rs), spots_count ks, spots_count rs)
 
 -- s is the node that the part t starts with, and has this number
 pub record First (t : List ℕ) (n : ℕ) (s : Spot) : Type 0 where
@@ -43,8 +43,8 @@ abbrev pub Stands : List ℕ → ℕ → ℕ → Spot → Type 0
 Stands t at i s = First (drop (8 * i) t) (at + i) s
 
 -- a node of a part is one of the longer part
-first-longer : (m : ℕ) (t : List ℕ) (n : ℕ) (s : Spot) → First (take m t) n s → First t n s
-first-longer m t n s p =
+first_longer : (m : ℕ) (t : List ℕ) (n : ℕ) (s : Spot) → First (take m t) n s → First t n s
+first_longer m t n s p =
     let u = take m t in
     let l : length u ≤ m = omega (arith, length-take m t) in
     let g : length u ≤ length t = omega (arith, length-take m t) in
@@ -61,10 +61,10 @@ first-longer m t n s p =
       under = subst (λ (v : List ℕ). Reads v (n + 1) s.kids) b p.under;
     }
 
-pub spot-at : (f : Forest) (t : List ℕ) (at i : ℕ) (s : Spot) → Reads t at f → get_elem? (spotsIn f) i ≡ some s → Stands t at i s
-unfolding spotsIn
-spot-at nil t at i s p q = absurd (let z : ◌≡◌ {A = ℕ} 0 1 = cc in omega arith)
-spot-at (node a k v ks rs) t at zero s p q =
+pub spot_at : (f : Forest) (t : List ℕ) (at i : ℕ) (s : Spot) → Reads t at f → get_elem? (spots_in f) i ≡ some s → Stands t at i s
+unfolding spots_in
+spot_at nil t at i s p q = absurd (let z : ◌≡◌ {A = ℕ} 0 1 = cc in omega arith)
+spot_at (node a k v ks rs) t at zero s p q =
     let e : record { number = a; kind = k; value = v; kids = ks } ≡ s = cc in
     let d : at ≡ at + 0 = omega arith in
     subst (First t (at + 0)) e
@@ -76,22 +76,22 @@ spot-at (node a k v ks rs) t at zero s p q =
       inside = p.inside;
       under = subst (λ (n : ℕ). Reads (below t) (n + 1) ks) d p.under;
     })
-spot-at (node a k v ks rs) t at (suc j) s p q =
-    let c = length (spotsIn ks) in
-    let z : size_of t ≡ 1 + c = reads-size a k v ks rs t at p ∙ ap (λ (x : ℕ). 1 + x) (sym (spots-count ks)) in
+spot_at (node a k v ks rs) t at (suc j) s p q =
+    let c = length (spots_in ks) in
+    let z : size_of t ≡ 1 + c = reads_size a k v ks rs t at p ∙ ap (λ (x : ℕ). 1 + x) (sym (spots_count ks)) in
     elim (dec_lt j c) [
       | yes h ↦ let m = 8 * size_of t - 8 in
           let x : 8 + 8 * j ≡ 8 * suc j = omega arith in
           let y : at + 1 + j ≡ at + suc j = omega arith in
           let d : drop (8 * j) (below t) ≡ take (m - 8 * j) (drop (8 * suc j) t) =
           drop-take (8 * j) m (drop 8 t) ∙ ap (take (m - 8 * j)) (drop-drop (8 * j) 8 t ∙ ap (λ (n : ℕ). drop n t) x) in
-          first-longer (m - 8 * j) (drop (8 * suc j) t) (at + suc j) s
+          first_longer (m - 8 * j) (drop (8 * suc j) t) (at + suc j) s
           (subst (λ (n : ℕ). First (take (m - 8 * j) (drop (8 * suc j) t)) n s) y
           (subst (λ (u : List ℕ). First u (at + 1 + j) s) d
-          (spot-at ks (below t) (at + 1) j s p.under (sym (at_left (spotsIn ks) (spotsIn rs) j h) ∙ q))))
+          (spot_at ks (below t) (at + 1) j s p.under (sym (at_left (spots_in ks) (spots_in rs) j h) ∙ q))))
       | no h ↦ let x : 8 * size_of t + 8 * (j - c) ≡ 8 * suc j = omega arith in
           let y : at + size_of t + (j - c) ≡ at + suc j = omega arith in
           subst (λ (n : ℕ). First (drop (8 * suc j) t) n s) y
           (subst (λ (u : List ℕ). First u (at + size_of t + (j - c)) s) (drop-drop (8 * (j - c)) (8 * size_of t) t ∙ ap (λ (n : ℕ). drop n t) x)
-          (spot-at rs (after t) (at + size_of t) (j - c) s p.after (sym (at_right (spotsIn ks) (spotsIn rs) j (omega arith)) ∙ q)))
+          (spot_at rs (after t) (at + size_of t) (j - c) s p.after (sym (at_right (spots_in ks) (spots_in rs) j (omega arith)) ∙ q)))
     ]

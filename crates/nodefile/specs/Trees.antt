@@ -1,4 +1,4 @@
--- A node list whose root is the whole list and whose every node's stretch falls into nodes holds a tree, and no second one (`reads-one`).
+-- A node list whose root is the whole list and whose every node's stretch falls into nodes holds a tree, and no second one (`reads_one`).
 -- Each node is asked for itself alone: that is what judging by stretches finds out.
 use Rattle.std.specs.Prelude.{ℕ, zero, suc, ◌+◌, ◌-◌, ◌*◌, ◌≤◌, ◌<◌, ◌≡◌, refl, List, [], length, take, drop}
 use Rattle.std.proofs.Common.{sym, subst, arith, drop_of_length-le, take-take, drop-drop, take_all}
@@ -7,7 +7,7 @@ use Rattle.base.specs.Parts.{drop-take, part_length}
 use Rattle.bits.specs.FieldLaws.{field-take}
 use Rattle.lexical.specs.Tree.{Forest, nil, node}
 use Rattle.nodefile.specs.Node.{kind_of, value_of, size_of, below, after}
-use Rattle.nodefile.specs.Kids.{Kids, no_kids, kid, Fits, kids-first}
+use Rattle.nodefile.specs.Kids.{Kids, no_kids, kid, Fits, kids_first}
 use Rattle.nodefile.specs.Reads.{Reads}
 
 -- each node's own stretch falls into nodes
@@ -27,8 +27,8 @@ module _ (ns : List ℕ) where
   pub stretch-length : (a m : ℕ) → 8 * (a + m) ≤ length ns → length (stretch ns a m) ≡ 8 * m
   stretch-length a m h = part_length ns (8 * a) (8 * m) (omega arith)
 
-  pub stretch-size : (a m : ℕ) → 0 < m → size_of (stretch ns a m) ≡ size_of (drop (8 * a) ns)
-  stretch-size a m h = field-take (drop (8 * a) ns) (8 * m) 8 16 (omega arith)
+  pub stretch_size : (a m : ℕ) → 0 < m → size_of (stretch ns a m) ≡ size_of (drop (8 * a) ns)
+  stretch_size a m h = field-take (drop (8 * a) ns) (8 * m) 8 16 (omega arith)
 
   pub stretch-after : (a m s : ℕ) → drop (8 * s) (stretch ns a m) ≡ stretch ns (a + s) (m - s)
   stretch-after a m s =
@@ -70,22 +70,22 @@ module _ (ns : List ℕ) where
       )
 
   -- by a number f above the number of nodes
-  forest-in : Local ns → (f a m : ℕ) → m < f → 8 * (a + m) ≤ length ns → Fits (stretch ns a m) → (g : Forest) × Reads (stretch ns a m) a g
-  forest-in local zero a m h l k = let z : ⊥ = omega arith in absurd z
-  forest-in local (suc f) a zero h l k = (nil, refl)
-  forest-in local (suc f) a (suc m) h l k =
+  forest_in : Local ns → (f a m : ℕ) → m < f → 8 * (a + m) ≤ length ns → Fits (stretch ns a m) → (g : Forest) × Reads (stretch ns a m) a g
+  forest_in local zero a m h l k = let z : ⊥ = omega arith in absurd z
+  forest_in local (suc f) a zero h l k = (nil, refl)
+  forest_in local (suc f) a (suc m) h l k =
       let s = size_of (stretch ns a (suc m)) in
-      let first = kids-first k.1 (omega (arith, stretch-length a (suc m) l)) in
+      let first = kids_first k.1 (omega (arith, stretch-length a (suc m) l)) in
       let n : s ≤ suc m = omega (arith, stretch-length a (suc m) l, first) in
       let under : Fits (stretch ns (a + 1) (s - 1)) =
-      subst (λ (x : ℕ). Fits (stretch ns (a + 1) (x - 1))) (sym (stretch-size a (suc m) (omega arith))) (subst Fits (below_at a) (local a (omega arith))) in
+      subst (λ (x : ℕ). Fits (stretch ns (a + 1) (x - 1))) (sym (stretch_size a (suc m) (omega arith))) (subst Fits (below_at a) (local a (omega arith))) in
       glue a (suc m) first.0 first.1 n
-      (forest-in local f (a + 1) (s - 1) (omega arith) (omega arith) under)
-      (forest-in local f (a + s) (suc m - s) (omega (arith, first.0)) (omega arith) (subst Fits (stretch-after a (suc m) s) first.2))
+      (forest_in local f (a + 1) (s - 1) (omega arith) (omega arith) under)
+      (forest_in local f (a + s) (suc m - s) (omega (arith, first.0)) (omega arith) (subst Fits (stretch-after a (suc m) s) first.2))
 
   -- the root alone is the whole list
-  root-fits : 8 * size_of ns ≡ length ns → Fits ns
-  root-fits e =
+  root_fits : 8 * size_of ns ≡ length ns → Fits ns
+  root_fits e =
       elim (dec_lt 0 (length ns)) [
         | yes h ↦ (_, kid {t = ns} (omega arith) (omega arith) (subst (λ (t : List ℕ). Kids t []) (sym (drop_of_length-le ns {i = 8 * size_of ns} (omega arith))) no_kids))
         | no h ↦ subst Fits (sym (drop_of_length-le ns {i = 0} (omega arith))) ([], no_kids)
@@ -94,5 +94,5 @@ module _ (ns : List ℕ) where
   pub tree : Whole ns → (f : Forest) × Reads ns 0 f
   tree w =
       let e : stretch ns 0 (size_of ns) ≡ ns = take_all (8 * size_of ns) ns (omega (arith, w.root)) in
-      let r = forest-in w.local (suc (size_of ns)) 0 (size_of ns) (omega arith) (omega (arith, w.root)) (subst Fits (sym e) (root-fits w.root)) in
+      let r = forest_in w.local (suc (size_of ns)) 0 (size_of ns) (omega arith) (omega (arith, w.root)) (subst Fits (sym e) (root_fits w.root)) in
       (r.0, subst (λ (t : List ℕ). Reads t 0 r.0) e r.1)

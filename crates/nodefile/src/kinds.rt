@@ -1,6 +1,6 @@
 // The kinds of nodes, by name (document 01, "The node file").
 ghost use Rattle.std.specs.Prelude.{◌≡◌};
-ghost use Rattle.nodefile.specs.Listed.{isScope};
+ghost use Rattle.nodefile.specs.Listed.{is_scope};
 
 pub const BLOCK: u64 = 0;
 
@@ -42,7 +42,7 @@ pub const TYPE: u64 = 18;
 
 // Whether a kind has a scope of its own: Def and Lambda.
 pub fn is_scope(kind: u64) -> bool
-    ensures { result ≡ isScope kind }
+    ensures { result ≡ is_scope kind }
 {
     if kind == DEF {
         return true;

@@ -4,10 +4,10 @@ pub mod node;
 
 ghost use Rattle.std.specs.Prelude.{◌≡◌, ◌+◌, ◌*◌, ◌^◌, ◌≤◌, ◌<◌};
 ghost use Rattle.bits.specs.Field.{field_of};
-ghost use Rattle.nodefile.specs.Node.{Is, kind_of, nodeZero, size_of, value_of, source_of};
-ghost use Rattle.nodefile.specs.Layout.{version, reexport, headZero, nodeCount, nameCount, entryCount, globalCount, poolBytes};
-ghost use Rattle.nodefile.specs.Layout.{names_at, entries_at, globalsAt, poolAt, nodesOf, names_of, entriesOf, globals_of, poolOf};
-ghost use Rattle.nodefile.specs.Lists.{nameOff, nameLen, spelled, hidden, entryName, entryPublic, entrySlot, globalName};
+ghost use Rattle.nodefile.specs.Node.{Is, kind_of, node_zero, size_of, value_of, source_of};
+ghost use Rattle.nodefile.specs.Layout.{version, reexport, head_zero, node_count, name_count, entry_count, global_count, pool_bytes};
+ghost use Rattle.nodefile.specs.Layout.{names_at, entries_at, globals_at, pool_at, nodes_of, names_of, entries_of, globals_of, pool_of};
+ghost use Rattle.nodefile.specs.Lists.{name_off, name_len, spelled, hidden, entry_name, entry_public, entry_slot, global_name};
 
 // ---- the node that t starts with
 
@@ -18,7 +18,7 @@ pub fn kind(t: &[u8]) -> u64
 }
 
 pub fn node_zero(t: &[u8]) -> u64
-    ensures { Is (nodeZero t.now) 8 result }
+    ensures { Is (node_zero t.now) 8 result }
 {
     bits::field(t, 5, 3)
 }
@@ -56,37 +56,37 @@ pub fn reexport(file: &[u8]) -> u64
 }
 
 pub fn head_zero(file: &[u8]) -> u64
-    ensures { Is (headZero file.now) 8 result }
+    ensures { Is (head_zero file.now) 8 result }
 {
     bits::field(file, 5, 3)
 }
 
 pub fn node_count(file: &[u8]) -> u64
-    ensures { Is (nodeCount file.now) (2 ^ 16) result }
+    ensures { Is (node_count file.now) (2 ^ 16) result }
 {
     bits::field(file, 8, 16)
 }
 
 pub fn name_count(file: &[u8]) -> u64
-    ensures { Is (nameCount file.now) (2 ^ 16) result }
+    ensures { Is (name_count file.now) (2 ^ 16) result }
 {
     bits::field(file, 24, 16)
 }
 
 pub fn entry_count(file: &[u8]) -> u64
-    ensures { Is (entryCount file.now) (2 ^ 16) result }
+    ensures { Is (entry_count file.now) (2 ^ 16) result }
 {
     bits::field(file, 40, 16)
 }
 
 pub fn global_count(file: &[u8]) -> u64
-    ensures { Is (globalCount file.now) (2 ^ 16) result }
+    ensures { Is (global_count file.now) (2 ^ 16) result }
 {
     bits::field(file, 56, 16)
 }
 
 pub fn pool_bytes(file: &[u8]) -> u64
-    ensures { Is (poolBytes file.now) (2 ^ 24) result }
+    ensures { Is (pool_bytes file.now) (2 ^ 24) result }
 {
     bits::field(file, 72, 24)
 }
@@ -106,19 +106,19 @@ fn entries_at(file: &[u8]) -> usize
 }
 
 fn globals_at(file: &[u8]) -> usize
-    ensures { Is (globalsAt file.now) (2 ^ 22) result }
+    ensures { Is (globals_at file.now) (2 ^ 22) result }
 {
     entries_at(file) + 4 * entry_count(file) as usize
 }
 
 fn pool_at(file: &[u8]) -> usize
-    ensures { Is (poolAt file.now) (2 ^ 23) result }
+    ensures { Is (pool_at file.now) (2 ^ 23) result }
 {
     globals_at(file) + 2 * global_count(file) as usize
 }
 
 pub fn nodes(file: &[u8]) -> &[u8]
-    ensures { result.now ≡ nodesOf file.now }
+    ensures { result.now ≡ nodes_of file.now }
 {
     base::part(file, 12, 8 * node_count(file) as usize)
 }
@@ -130,7 +130,7 @@ pub fn names(file: &[u8]) -> &[u8]
 }
 
 pub fn entries(file: &[u8]) -> &[u8]
-    ensures { result.now ≡ entriesOf file.now }
+    ensures { result.now ≡ entries_of file.now }
 {
     base::part(file, entries_at(file), 4 * entry_count(file) as usize)
 }
@@ -142,7 +142,7 @@ pub fn globals(file: &[u8]) -> &[u8]
 }
 
 pub fn pool(file: &[u8]) -> &[u8]
-    ensures { result.now ≡ poolOf file.now }
+    ensures { result.now ≡ pool_of file.now }
 {
     base::part(file, pool_at(file), pool_bytes(file) as usize)
 }
@@ -162,13 +162,13 @@ fn record_field(list: &[u8], bytes: usize, k: usize, at: usize, width: usize) ->
 }
 
 pub fn name_offset(nm: &[u8], k: usize) -> u64
-    ensures { Is (nameOff nm.now k) (2 ^ 16) result }
+    ensures { Is (name_off nm.now k) (2 ^ 16) result }
 {
     record_field(nm, 3, k, 0, 16)
 }
 
 pub fn name_length(nm: &[u8], k: usize) -> u64
-    ensures { Is (nameLen nm.now k) 256 result }
+    ensures { Is (name_len nm.now k) 256 result }
 {
     record_field(nm, 3, k, 16, 8)
 }
@@ -196,25 +196,25 @@ pub fn hidden(nm: &[u8], pool: &[u8], k: usize) -> bool
 }
 
 pub fn entry_name(es: &[u8], k: usize) -> u64
-    ensures { Is (entryName es.now k) (2 ^ 16) result }
+    ensures { Is (entry_name es.now k) (2 ^ 16) result }
 {
     record_field(es, 4, k, 0, 16)
 }
 
 pub fn entry_public(es: &[u8], k: usize) -> u64
-    ensures { Is (entryPublic es.now k) 2 result }
+    ensures { Is (entry_public es.now k) 2 result }
 {
     record_field(es, 4, k, 16, 1)
 }
 
 pub fn entry_slot(es: &[u8], k: usize) -> u64
-    ensures { Is (entrySlot es.now k) (2 ^ 15) result }
+    ensures { Is (entry_slot es.now k) (2 ^ 15) result }
 {
     record_field(es, 4, k, 17, 15)
 }
 
 pub fn global_name(gs: &[u8], k: usize) -> u64
-    ensures { Is (globalName gs.now k) (2 ^ 16) result }
+    ensures { Is (global_name gs.now k) (2 ^ 16) result }
 {
     record_field(gs, 2, k, 0, 16)
 }

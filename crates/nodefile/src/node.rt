@@ -1,7 +1,7 @@
 // A node of a file by its number; any bytes are taken.
 ghost use Rattle.std.specs.Prelude.{◌≡◌, ◌*◌, ◌^◌, drop};
-ghost use Rattle.nodefile.specs.Layout.{nodesOf};
-ghost use Rattle.nodefile.specs.Listed.{kind_at, value_at, scopeCount};
+ghost use Rattle.nodefile.specs.Layout.{nodes_of};
+ghost use Rattle.nodefile.specs.Listed.{kind_at, value_at, scope_count};
 ghost use Rattle.nodefile.specs.Node.{Is};
 
 use crate::kinds;
@@ -18,20 +18,20 @@ pub fn node(list: &[u8], i: usize) -> &[u8]
 }
 
 pub fn kind(file: &[u8], i: usize) -> u64
-    ensures { Is (kind_at (nodesOf file.now) i) 32 result }
+    ensures { Is (kind_at (nodes_of file.now) i) 32 result }
 {
     crate::kind(node(crate::nodes(file), i))
 }
 
 pub fn value(file: &[u8], i: usize) -> u64
-    ensures { Is (value_at (nodesOf file.now) i) (2 ^ 16) result }
+    ensures { Is (value_at (nodes_of file.now) i) (2 ^ 16) result }
 {
     crate::value(node(crate::nodes(file), i))
 }
 
 // The number of Defs and Lambdas.
 pub fn scope_count(file: &[u8]) -> usize
-    ensures { Is (scopeCount file.now) (2 ^ 16) result }
+    ensures { Is (scope_count file.now) (2 ^ 16) result }
 {
     let n = crate::node_count(file) as usize;
     let mut s = 0;

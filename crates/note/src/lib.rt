@@ -2,14 +2,14 @@
 ghost use Rattle.std.specs.Prelude.{◌≡◌, false, [], ◌+◌, ◌≤◌, ◌<◌, length};
 ghost use Rattle.lexical.specs.Tree.{Forest};
 ghost use Rattle.lexical.specs.Records.{bit};
-ghost use Rattle.nodefile.specs.Layout.{entryCount, globalCount};
-ghost use Rattle.nodefile.specs.FileOf.{fileOf};
-ghost use Rattle.store.specs.Sections.{modAt, globAt, hiddenAt, manyNames, manyBindings, tLength};
+ghost use Rattle.nodefile.specs.Layout.{entry_count, global_count};
+ghost use Rattle.nodefile.specs.FileOf.{file_of};
+ghost use Rattle.store.specs.Sections.{mod_at, glob_at, hidden_at, many_names, many_bindings, t_length};
 ghost use Rattle.store.specs.Image.{MadeIn};
-ghost use Rattle.store.specs.Blocks.{moduleBlock, varsOf};
+ghost use Rattle.store.specs.Blocks.{module_block, vars_of};
 ghost use Rattle.store.specs.Laws.Points.{Zeros};
 ghost use Rattle.note.specs.Filled.{Blank};
-ghost use Rattle.note.specs.Noted.{ListsOk, HiddenNoted, NumbersNoted, unlessNoted, globalsUpTo, Entered, Noted};
+ghost use Rattle.note.specs.Noted.{ListsOk, HiddenNoted, NumbersNoted, unless_noted, globals_up_to, Entered, Noted};
 
 use store::sections::{GLOBALS, HIDDEN, LOADS_SHOWN};
 
@@ -24,7 +24,7 @@ fn flag(b: bool) -> u16
 
 // Which names begin with `_`.
 fn note_hidden(file: &[u8], t: &mut [u16])
-    requires { (length t.old ≡ tLength) × ListsOk file.now × Blank hiddenAt manyNames t.old }
+    requires { (length t.old ≡ t_length) × ListsOk file.now × Blank hidden_at many_names t.old }
     ensures { HiddenNoted file.now t.old t.new }
 {
     let nm = nodefile::names(file);
@@ -39,7 +39,7 @@ fn note_hidden(file: &[u8], t: &mut [u16])
 
 // The first number that was noted for a name stays.
 fn unless_noted(old: u16, new: u16) -> u16
-    ensures { result ≡ unlessNoted old new }
+    ensures { result ≡ unless_noted old new }
 {
     if old == 0 {
         return new;
@@ -49,8 +49,8 @@ fn unless_noted(old: u16, new: u16) -> u16
 
 // Each global's number.
 fn note_globals(file: &[u8], t: &mut [u16])
-    requires { (length t.old ≡ tLength) × ListsOk file.now × Blank globAt manyNames t.old }
-    ensures { NumbersNoted globAt (globalsUpTo file.now (globalCount file.now)) t.old t.new }
+    requires { (length t.old ≡ t_length) × ListsOk file.now × Blank glob_at many_names t.old }
+    ensures { NumbersNoted glob_at (globals_up_to file.now (global_count file.now)) t.old t.new }
 {
     let gs = nodefile::globals(file);
     let n = nodefile::global_count(file) as usize;
@@ -65,8 +65,8 @@ fn note_globals(file: &[u8], t: &mut [u16])
 
 // Each module entry makes a binding.
 fn note_entries(file: &[u8], binds: &mut [u64], t: &mut [u16]) -> usize
-    requires { (manyBindings ≤ length binds.old) × (length t.old ≡ tLength) × ListsOk file.now × MadeIn [] (λ _. false) binds.old t.old × Blank modAt manyNames t.old }
-    ensures { (result ≡ entryCount file.now) × ((root : Forest) → let E = moduleBlock (fileOf file.now root) in Entered E (varsOf E []) t.old binds.new t.new) }
+    requires { (many_bindings ≤ length binds.old) × (length t.old ≡ t_length) × ListsOk file.now × MadeIn [] (λ _. false) binds.old t.old × Blank mod_at many_names t.old }
+    ensures { (result ≡ entry_count file.now) × ((root : Forest) → let E = module_block (file_of file.now root) in Entered E (vars_of E []) t.old binds.new t.new) }
 {
     let es = nodefile::entries(file);
     let n = nodefile::entry_count(file) as usize;
@@ -84,8 +84,8 @@ fn note_entries(file: &[u8], binds: &mut [u64], t: &mut [u16]) -> usize
 
 // All of them, into lists that are all zero; how many module entries there are.
 pub fn note_lists(file: &[u8], binds: &mut [u64], t: &mut [u16]) -> usize
-    requires { (manyBindings ≤ length binds.old) × (length t.old ≡ tLength) × Zeros binds.old × Zeros t.old × ListsOk file.now }
-    ensures { (root : Forest) → Noted (fileOf file.now root) result binds.new t.new }
+    requires { (many_bindings ≤ length binds.old) × (length t.old ≡ t_length) × Zeros binds.old × Zeros t.old × ListsOk file.now }
+    ensures { (root : Forest) → Noted (file_of file.now root) result binds.new t.new }
 {
     t[LOADS_SHOWN] = flag(nodefile::reexport(file) == 1);
     note_hidden(file, t);

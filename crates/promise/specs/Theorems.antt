@@ -8,108 +8,108 @@ use Rattle.std.proofs.Math.Path.{subst}
 use mathlib.Core.List.{List, [], ◌∷◌, map}
 use Rattle.std.proofs.Math.Option.{some}
 use Rattle.base.specs.First.{NoneHolds, first_one, none_first}
-use Rattle.base.specs.Smallest.{Smallest, first-smallest}
+use Rattle.base.specs.Smallest.{Smallest, first_smallest}
 use Rattle.lexical.specs.Tree.{Forest}
-use Rattle.lexical.specs.Module.{File, outerOf}
+use Rattle.lexical.specs.Module.{File, outer_of}
 use Rattle.lexical.specs.Meaning.{Around}
 use Rattle.lexical.specs.Third.{resolved}
 use Rattle.lexical.specs.Records.{records}
-use Rattle.lexical.specs.Claims.{sites_of, told, toldErrors}
-use Rattle.lexical.specs.Schemes.{copiesInto, pairs}
+use Rattle.lexical.specs.Claims.{sites_of, told, told_errors}
+use Rattle.lexical.specs.Schemes.{copies_into, pairs}
 use Rattle.lexical.specs.Labels.{Labelled, ServesTree}
 use Rattle.lexical.specs.Theorems as lexical
 use Rattle.lexical.specs.Whole as whole
-use Rattle.nodefile.specs.Layout.{nodeCount, nodesOf}
+use Rattle.nodefile.specs.Layout.{node_count, nodes_of}
 use Rattle.nodefile.specs.Reads.{Reads}
-use Rattle.nodefile.specs.FileOf.{fileOf}
+use Rattle.nodefile.specs.FileOf.{file_of}
 use Rattle.nodefile.specs.Listed.{kind_at, value_at}
 use Rattle.answer.specs.declared.Answer.{Answer}
 use Rattle.answer.specs.Buffers.{Buffers, Front}
 use Rattle.answer.specs.Records.{pair_of}
 use Rattle.scope.specs.Answer.{resolving, Given, Resolves}
 use Rattle.scope.specs.Ready.{Ready}
-use Rattle.promise.specs.Shown.{nodeFields, nodesAround, Told, CapturedShown, Homeward, lists, AllBack}
-use Rattle.promise.specs.Said.{copiesShown, NameSaid}
-use Rattle.scope.specs.Laws.Accepts.{judged-tree}
-use Rattle.scope.specs.Laws.Readies.{ready-scoped, ready-distinct, ready-length}
-use Rattle.promise.specs.Laws.Sites.{ident-event}
-use Rattle.scope.specs.Laws.Zero.{zero-accepted, zero-ready, zero-slots}
+use Rattle.promise.specs.Shown.{node_fields, nodes_around, Told, CapturedShown, Homeward, lists, AllBack}
+use Rattle.promise.specs.Said.{copies_shown, NameSaid}
+use Rattle.scope.specs.Laws.Accepts.{judged_tree}
+use Rattle.scope.specs.Laws.Readies.{ready_scoped, ready_distinct, ready_length}
+use Rattle.promise.specs.Laws.Sites.{ident_event}
+use Rattle.scope.specs.Laws.Zero.{zero_accepted, zero_ready, zero_slots}
 use Rattle.scope.specs.Laws.One.{same_answer}
-use Rattle.promise.specs.Laws.Records.{back, copies-into}
-use Rattle.promise.specs.Laws.Told.{ident-shown, homeward}
-use Rattle.promise.specs.Laws.Named.{other-empty}
-use Rattle.promise.specs.Laws.Shows.{pairs-shown}
-use Rattle.promise.specs.Laws.Saying.{name-said}
-use Rattle.promise.specs.Laws.Captured.{captured-shown}
+use Rattle.promise.specs.Laws.Records.{back, copies_into_lem}
+use Rattle.promise.specs.Laws.Told.{ident_shown, homeward}
+use Rattle.promise.specs.Laws.Named.{other_empty}
+use Rattle.promise.specs.Laws.Shows.{pairs_shown}
+use Rattle.promise.specs.Laws.Saying.{name_said}
+use Rattle.promise.specs.Laws.Captured.{captured_shown}
 
 -- A file and buffers of which no condition is true get 0: nothing is refused without its cause.
 pub none_true : {bs : List ℕ} {b b' : Buffers} {a : Answer} → Resolves bs b a b' → NoneHolds (resolving bs b) → a.number ≡ 0
 none_true {bs} {b} r none = first_one (resolving bs b) r.number (none_first (resolving bs b) none)
 
 -- The number is the smallest whose condition holds, as document 01 says: the rows' numbers stand in rising order.
-pub number-smallest : {bs : List ℕ} {b b' : Buffers} {a : Answer} → Resolves bs b a b' → Smallest (resolving bs b) a.number
-number-smallest {bs} {b} {b'} {a} r = first-smallest (resolving bs b) a.number tt r.number
+pub number_smallest : {bs : List ℕ} {b b' : Buffers} {a : Answer} → Resolves bs b a b' → Smallest (resolving bs b) a.number
+number_smallest {bs} {b} {b'} {a} r = first_smallest (resolving bs b) a.number tt r.number
 
 -- No second answer fits, in its number, its counts or any element of any buffer.
-pub resolves-one : {bs : List ℕ} {b b₁ b₂ : Buffers} {a c : Answer} → Resolves bs b a b₁ → Resolves bs b c b₂ → (a ≡ c) × (b₁ ≡ b₂)
-resolves-one r s = same_answer r s
+pub resolves_one : {bs : List ℕ} {b b₁ b₂ : Buffers} {a c : Answer} → Resolves bs b a b₁ → Resolves bs b c b₂ → (a ≡ c) × (b₁ ≡ b₂)
+resolves_one r s = same_answer r s
 
 -- An accepted file.
 module _ {bs : List ℕ} {b b' : Buffers} {a : Answer} (r : Resolves bs b a b') (z : a.number ≡ 0) where
-  -- Its nodes hold a tree, and no second one (nodefile's `reads-one`).
-  pub a-tree : (root : Forest) × Reads (nodesOf bs) 0 root
-  a-tree = judged-tree (zero-accepted r z)
+  -- Its nodes hold a tree, and no second one (nodefile's `reads_one`).
+  pub a_tree : (root : Forest) × Reads (nodes_of bs) 0 root
+  a_tree = judged_tree (zero_accepted r z)
 
   -- That tree, and the file that the bytes stand for with it.
-  module _ (root : Forest) (t : Reads (nodesOf bs) 0 root) where
+  module _ (root : Forest) (t : Reads (nodes_of bs) 0 root) where
     abbrev F : File
-    F = fileOf bs root
+    F = file_of bs root
 
     ready : Ready bs root
-    ready = zero-ready r z root t
+    ready = zero_ready r z root t
 
     few : length (resolved F).slots ≤ 4096
-    few = zero-slots r z root t
+    few = zero_slots r z root t
 
-    given : Given F (nodeCount bs) b a b'
+    given : Given F (node_count bs) b a b'
     given = r.given z root t
 
     -- T1. Every Ident of the node list: the nodes around it decide its meaning, and its record, or its error, is what that meaning says.
-    pub T1 : (x : ℕ) → x < nodeCount bs → kind_at (nodesOf bs) x ≡ 11 → Told F a b' x (value_at (nodesOf bs) x)
+    pub T1 : (x : ℕ) → x < node_count bs → kind_at (nodes_of bs) x ≡ 11 → Told F a b' x (value_at (nodes_of bs) x)
     T1 x h k =
-        let l = ident-event F (ready-scoped ready) (nodesOf bs) t x (omega (arith, ready-length ready)) k in
-        record { up = l.up; above = l.above; shown = ident-shown ready few given x (value_at (nodesOf bs) x) l }
+        let l = ident_event F (ready_scoped ready) (nodes_of bs) t x (omega (arith, ready_length ready)) k in
+        record { up = l.up; above = l.above; shown = ident_shown ready few given x (value_at (nodes_of bs) x) l }
 
     -- The errors are those of the Idents' meanings, in the order of resolving, and no others.
-    pub T1-errors : Front b'.errors (length b.errors) (map pair_of (toldErrors (map (told (outerOf F)) (sites_of F))))
+    pub T1_errors : Front b'.errors (length b.errors) (map pair_of (told_errors (map (told (outer_of F)) (sites_of F))))
     unfolding records
-    T1-errors = subst (λ (xs : List (List ℕ)). Front b'.errors (length b.errors) (map pair_of xs)) (lexical.T1-errors F (ready-scoped ready)) given.errors-hold
+    T1_errors = subst (λ (xs : List (List ℕ)). Front b'.errors (length b.errors) (map pair_of xs)) (lexical.T1_errors F (ready_scoped ready)) given.errors_hold
 
     -- Every Name of the node list: the nodes around it say which block it belongs to. Its record has class 1 in the module's block and class 2 in any other, and the slot and the number of the binding that its block makes of its name.
-    pub T1-names : (x : ℕ) → x < nodeCount bs → kind_at (nodesOf bs) x ≡ 8 → NameSaid F a b' x (value_at (nodesOf bs) x)
-    T1-names = name-said ready few given
+    pub T1_names : (x : ℕ) → x < node_count bs → kind_at (nodes_of bs) x ≡ 8 → NameSaid F a b' x (value_at (nodes_of bs) x)
+    T1_names = name_said ready few given
 
     -- Every other node's record is 0.
-    pub T1-others : (x : ℕ) → x < nodeCount bs → (kind_at (nodesOf bs) x ≡ 8 → ⊥) → (kind_at (nodesOf bs) x ≡ 11 → ⊥) → get_or b'.nodes x 0 ≡ 0
-    T1-others = other-empty ready few given
+    pub T1_others : (x : ℕ) → x < node_count bs → (kind_at (nodes_of bs) x ≡ 8 → ⊥) → (kind_at (nodes_of bs) x ≡ 11 → ⊥) → get_or b'.nodes x 0 ≡ 0
+    T1_others = other_empty ready few given
 
     -- Every binding is marked captured exactly when some Ident captures it.
-    pub T1-captured : (k : ℕ) → k < a.bindings → CapturedShown F b' k
-    T1-captured = captured-shown ready few given
+    pub T1_captured : (k : ℕ) → k < a.bindings → CapturedShown F b' k
+    T1_captured = captured_shown ready few given
 
     -- Nothing is lost in the packing: every record of every list, taken apart, is the row that the walks made.
-    pub reads-back : AllBack (lists (records F) b')
-    reads-back = back ready few given
+    pub reads_back : AllBack (lists (records F) b')
+    reads_back = back ready few given
 
     -- T2. Every Ident that is answered by a local slot k: `follow::follow`, over the copy records and the scopes around the Ident, leads from k to the slot of the local that the Ident means, in the scope which that belongs to.
-    pub T2 : (x : ℕ) → x < nodeCount bs → kind_at (nodesOf bs) x ≡ 11 → (k i : ℕ) → nodeFields b' x ≡ 2 ∷ k ∷ i ∷ [] → (up : List Around) → nodesAround F x ≡ some up → Homeward a b' (value_at (nodesOf bs) x) up k i
+    pub T2 : (x : ℕ) → x < node_count bs → kind_at (nodes_of bs) x ≡ 11 → (k i : ℕ) → node_fields b' x ≡ 2 ∷ k ∷ i ∷ [] → (up : List Around) → nodes_around F x ≡ some up → Homeward a b' (value_at (nodes_of bs) x) up k i
     T2 x h n k i e up q = let p = T1 x h n in let y : p.up ≡ up = let w : some p.up ≡ some up = sym p.above ∙ q in cc in
-        subst (λ (u : List Around). Homeward a b' (value_at (nodesOf bs) x) u k i) y (homeward F a b' (record { node = x; name = value_at (nodesOf bs) x; above = p.up }) k i e p.shown)
+        subst (λ (u : List Around). Homeward a b' (value_at (nodes_of bs) x) u k i) y (homeward F a b' (record { node = x; name = value_at (nodes_of bs) x; above = p.up }) k i e p.shown)
 
     -- T3. Any scheme of copies that has every local at hand where an Ident means it, locals told by their scope and Name, has in each scope at least as many copies as the records have;
-    pub T3 : (S : Labelled) → ServesTree F S → (s : ℕ) → copiesInto s (copiesShown a b') ≤ length (S.copies s)
-    T3 S h s = omega (arith, copies-into ready few given s, whole.T3-tree F (ready-scoped ready) (ready-distinct ready) S h s)
+    pub T3 : (S : Labelled) → ServesTree F S → (s : ℕ) → copies_into s (copies_shown a b') ≤ length (S.copies s)
+    T3 S h s = omega (arith, copies_into_lem ready few given s, whole.T3_tree F (ready_scoped ready) (ready_distinct ready) S h s)
 
     -- and the records are such a scheme, pair for pair.
-    pub T3-met : (S : Labelled) × ServesTree F S × ((s : ℕ) → S.copies s ≡ pairs s (copiesShown a b'))
-    T3-met = let (S, h, e) = whole.T3-met F (ready-scoped ready) in (S, h, λ s. e s ∙ sym (pairs-shown ready few given s))
+    pub T3_met : (S : Labelled) × ServesTree F S × ((s : ℕ) → S.copies s ≡ pairs s (copies_shown a b'))
+    T3_met = let (S, h, e) = whole.T3_met F (ready_scoped ready) in (S, h, λ s. e s ∙ sym (pairs_shown ready few given s))

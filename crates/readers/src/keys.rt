@@ -1,13 +1,13 @@
 // The keys by which the nodes are grouped: one more than the binding, or the global, that an Ident is resolved to.
 ghost use Rattle.std.specs.Prelude.{◌≡◌, ◌≤◌, length};
 ghost use Rattle.base.specs.UpTo.{up_to};
-ghost use Rattle.readers.specs.Keys.{ofBinding, bindingKey, globalKey, key_of, key_at};
+ghost use Rattle.readers.specs.Keys.{of_binding, binding_key, global_key, key_of, key_at};
 
 use nodefile::kinds;
 
 // Whether a class names a binding: module or local.
 fn of_binding(class: u64) -> bool
-    ensures { result ≡ ofBinding class }
+    ensures { result ≡ of_binding class }
 {
     if class == answer::node::MODULE {
         return true;
@@ -17,7 +17,7 @@ fn of_binding(class: u64) -> bool
 
 // The key among the bindings, off the record of an Ident.
 fn binding_key(r: u32) -> u32
-    ensures { result ≡ bindingKey r }
+    ensures { result ≡ binding_key r }
 {
     if of_binding(answer::node::class(r)) {
         return (answer::node::binding(r) + 1) as u32;
@@ -27,7 +27,7 @@ fn binding_key(r: u32) -> u32
 
 // The key among the globals.
 fn global_key(r: u32) -> u32
-    ensures { result ≡ globalKey r }
+    ensures { result ≡ global_key r }
 {
     if answer::node::class(r) == answer::node::GLOBAL {
         return (answer::node::slot(r) + 1) as u32;

@@ -8,23 +8,23 @@ use native.Mathlib.Omega.{arith}
 use lib.ListN.{length, get_elem?, length-map}
 use Rattle.lexical.specs.Lists.{first, count, none-some, map_o}
 use Rattle.lexical.specs.Binders.{merge}
-use Rattle.lexical.specs.Module.{Entry, File, entryVar}
+use Rattle.lexical.specs.Module.{Entry, File, entry_var}
 use Rattle.lexical.specs.State.{Binding}
-use Rattle.lexical.specs.Block.{freshIn}
-use Rattle.lexical.specs.Second.{rows, rowNames}
+use Rattle.lexical.specs.Block.{fresh_in}
+use Rattle.lexical.specs.Second.{rows, row_names}
 use Rattle.lexical.specs.Records.{params_of, captured, errors}
 use Rattle.store.specs.declared.ids.State.{State}
 use Rattle.store.specs.Sections.{mem, or_zero, plus}
-use Rattle.store.specs.Words.{slotWord}
-use Rattle.store.specs.Image.{SlotsIn, Image, lastFrom, before}
+use Rattle.store.specs.Words.{slot_word}
+use Rattle.store.specs.Image.{SlotsIn, Image, last_from, before}
 use Rattle.store.specs.Meanings.{number_of, SavedAll, Stacked, EnvIn, RangesIn}
 use Rattle.store.specs.Rel.{Rel, caps}
-use Rattle.store.specs.Blocks.{moduleBlock, nothing, blockSt, blockWorld, slots_of, bindingsOf, varsOf, InBlock}
-use Rattle.store.specs.Laws.Points.{Zeros, point-none}
-use Rattle.store.specs.Laws.Copied.{copies-none, errors-none}
-use Rattle.store.specs.Laws.Nodes.{nodes-none}
-use Rattle.store.specs.Laws.Placed.{placed-length}
-use Rattle.target.specs.Entries.{unsettled, module-opens}
+use Rattle.store.specs.Blocks.{module_block, nothing, block_st, block_world, slots_of, bindings_of, vars_of, InBlock}
+use Rattle.store.specs.Laws.Points.{Zeros, point_none}
+use Rattle.store.specs.Laws.Copied.{copies_none, errors-none}
+use Rattle.store.specs.Laws.Nodes.{nodes_none}
+use Rattle.store.specs.Laws.Placed.{placed_length}
+use Rattle.target.specs.Entries.{unsettled, module_opens}
 use Rattle.collect.specs.Declare.{counted}
 use Rattle.note.specs.Noted.{Noted}
 
@@ -36,66 +36,66 @@ opening entries = record { bindings = entries; slots = 0; copies = 0; errors = 0
 abbrev pub no_rows : ℕ → List Binding
 no_rows = rows []
 
-abbrev pub noParams : ℕ → ℕ
-noParams s = params_of (first (counted s) [])
+abbrev pub no_params : ℕ → ℕ
+no_params s = params_of (first (counted s) [])
 
 module _ (F : File) (entries : ℕ) (binds w t : List ℕ) (n : Noted F entries binds t) (z : Zeros w) where
   around : (made : List Binding) → EnvIn [] (0 ∷ []) made 0 t
   unfolding SavedAll Stacked number_of first map_o plus
-  around made = record { cur = λ i h. n.clear-low (0 + i) (omega arith); saved = tt; stack = (n.clear-high (20736 + 0) (omega arith) (omega arith), omega arith, tt); level-is = refl; low = omega arith }
+  around made = record { cur = λ i h. n.clear_low (0 + i) (omega arith); saved = tt; stack = (n.clear_high (20736 + 0) (omega arith) (omega arith), omega arith, tt); level_is = refl; low = omega arith }
 
   ranges : (made : List Binding) → RangesIn no_rows made t
-  unfolding rows rowNames first
+  unfolding rows row_names first
   ranges made s h = record {
-    end = n.clear-high (12288 + s) (omega arith) (omega arith) ∙ omega (arith, n.clear-high (12032 + s) (omega arith) (omega arith));
-    within = omega (arith, n.clear-high (12288 + s) (omega arith) (omega arith));
+    end = n.clear_high (12288 + s) (omega arith) (omega arith) ∙ omega (arith, n.clear_high (12032 + s) (omega arith) (omega arith));
+    within = omega (arith, n.clear_high (12288 + s) (omega arith) (omega arith));
     are = λ k b e. absurd (none-some refl e);
     locals = λ k b e. absurd (none-some refl e);
   }
 
-  slots : SlotsIn [] noParams w t
-  unfolding lastFrom before freshIn count or_zero params_of first
+  slots : SlotsIn [] no_params w t
+  unfolding last_from before fresh_in count or_zero params_of first
   slots = record {
-    rows = point-none slotWord w 2048 4096 z;
+    rows = point_none slot_word w 2048 4096 z;
     scopes = λ s _. z (12288 + s);
-    nums = λ k h. n.clear-high (16640 + k) (omega arith) (omega arith);
-    back = λ k h. n.clear-high (12544 + k) (omega arith) (omega arith);
-    tail = λ k h. n.clear-high (9728 + k) (omega arith) (omega arith);
+    nums = λ k h. n.clear_high (16640 + k) (omega arith) (omega arith);
+    back = λ k h. n.clear_high (12544 + k) (omega arith) (omega arith);
+    tail = λ k h. n.clear_high (9728 + k) (omega arith) (omega arith);
     few = omega arith;
     params = λ s _. omega arith;
     sound = λ k r e. absurd (none-some refl e);
   }
 
-  made-are : entries ≡ length (bindingsOf (moduleBlock F) [])
-  unfolding merge moduleBlock
-  made-are = n.count ∙ sym (placed-length (moduleBlock F) 0 (varsOf (moduleBlock F) []) ∙ length-map F.entries entryVar)
+  made_are : entries ≡ length (bindings_of (module_block F) [])
+  unfolding merge module_block
+  made_are = n.count ∙ sym (placed_length (module_block F) 0 (vars_of (module_block F) []) ∙ length-map F.entries entry_var)
 
-  image : Image [] noParams (caps nothing) (blockSt (moduleBlock F) []) (opening entries) (mem binds w t)
-  unfolding blockSt slots_of moduleBlock nothing captured errors
+  image : Image [] no_params (caps nothing) (block_st (module_block F) []) (opening entries) (mem binds w t)
+  unfolding block_st slots_of module_block nothing captured errors
   image = record {
     made = n.made;
     slots = slots;
-    copies = copies-none w z;
+    copies = copies_none w z;
     errors = errors-none w z;
-    nodes = nodes-none [] w z;
-    bindings-are = made-are;
-    slots-are = refl;
-    copies-are = refl;
-    errors-are = refl;
-    copies-fit = omega arith;
-    log-below = λ j e q. absurd (none-some refl q);
+    nodes = nodes_none [] w z;
+    bindings_are = made_are;
+    slots_are = refl;
+    copies_are = refl;
+    errors_are = refl;
+    copies_fit = omega arith;
+    log_below = λ j e q. absurd (none-some refl q);
   }
 
-  rel : Rel (blockWorld (unsettled F [] no_rows noParams) (moduleBlock F) []) [] (0 ∷ []) (caps nothing) (blockSt (moduleBlock F) []) (opening entries) (mem binds w t)
-  unfolding blockWorld moduleBlock
+  rel : Rel (block_world (unsettled F [] no_rows no_params) (module_block F) []) [] (0 ∷ []) (caps nothing) (block_st (module_block F) []) (opening entries) (mem binds w t)
+  unfolding block_world module_block
   rel = record {
     image = image;
     around = around _;
     names = n.names;
     ranges = ranges _;
-    scratch = λ k h. omega (arith, n.clear-high (4096 + k) (omega arith) (omega arith));
+    scratch = λ k h. omega (arith, n.clear_high (4096 + k) (omega arith) (omega arith));
     settled = λ i b e. absurd (none-some refl e);
   }
 
-  pub module-begins : ((i : ℕ) (e : Entry) → get_elem? F.entries i ≡ some e → e.slot < 32768) → InBlock (unsettled F [] no_rows noParams) [] (0 ∷ []) (moduleBlock F) [] (opening entries) (mem binds w t)
-  module-begins h = module-opens F [] no_rows noParams h (around []) (ranges []) rel
+  pub module_begins : ((i : ℕ) (e : Entry) → get_elem? F.entries i ≡ some e → e.slot < 32768) → InBlock (unsettled F [] no_rows no_params) [] (0 ∷ []) (module_block F) [] (opening entries) (mem binds w t)
+  module_begins h = module_opens F [] no_rows no_params h (around []) (ranges []) rel

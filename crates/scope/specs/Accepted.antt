@@ -2,9 +2,9 @@
 use Rattle.std.specs.Prelude.{ℕ, ◌≤◌, ◌≡◌, List, length}
 use Rattle.lexical.specs.Tree.{Forest}
 use Rattle.lexical.specs.Third.{resolved}
-use Rattle.nodefile.specs.Layout.{nodeCount, nodesOf}
+use Rattle.nodefile.specs.Layout.{node_count, nodes_of}
 use Rattle.nodefile.specs.Reads.{Reads}
-use Rattle.nodefile.specs.FileOf.{fileOf}
+use Rattle.nodefile.specs.FileOf.{file_of}
 use Rattle.store.specs.Laws.Points.{Zeros}
 use Rattle.answer.specs.declared.Answer.{Answer}
 use Rattle.answer.specs.Buffers.{Buffers}
@@ -37,4 +37,4 @@ pub record PreAccepted (bs : List ℕ) (b : Buffers) : Type 0 where
 
 pub data Accepting (bs : List ℕ) (b : Buffers) (a : Answer) (b' : Buffers) : Type 0 where
   many : a.number ≡ 12 → ManySlots bs → Refused b a b' → Accepting bs b a b'
-  few : a.number ≡ 0 → ((root : Forest) → Reads (nodesOf bs) 0 root → length (resolved (fileOf bs root)).slots ≤ 4096 × Given (fileOf bs root) (nodeCount bs) b a b') → Accepting bs b a b'
+  few : a.number ≡ 0 → ((root : Forest) → Reads (nodes_of bs) 0 root → length (resolved (file_of bs root)).slots ≤ 4096 × Given (file_of bs root) (node_count bs) b a b') → Accepting bs b a b'

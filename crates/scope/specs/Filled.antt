@@ -23,9 +23,9 @@ filled_more {f} {n} {old} {new} {x} m h e = record {
   rest = λ j l. get_or-set_other new n j x 0 (omega arith) ∙ m.rest j (omega arith);
 }
 
-pub filled-end : {f : ℕ → ℕ} {n i : ℕ} {old new : List ℕ} → Filled f i old new → i ≡ n → Filled f n old new
-filled-end m e = rw (← e) m
+pub filled_end : {f : ℕ → ℕ} {n i : ℕ} {old new : List ℕ} → Filled f i old new → i ≡ n → Filled f n old new
+filled_end m e = rw (← e) m
 
-pub filled-all : {a n : ℕ} {old new : List ℕ} → Filled (λ _. a) n old new → length old ≤ n → new ≡ replicate (length old) a
-filled-all {a} {n} {old} {new} m h = ext_get_or 0 new (replicate (length old) a) (m.long ∙ sym (length-replicate (length old) a))
+pub filled_all : {a n : ℕ} {old new : List ℕ} → Filled (λ _. a) n old new → length old ≤ n → new ≡ replicate (length old) a
+filled_all {a} {n} {old} {new} m h = ext_get_or 0 new (replicate (length old) a) (m.long ∙ sym (length-replicate (length old) a))
     (λ j l. m.front j (omega (arith, m.long)) ∙ sym (get_or-replicate (length old) j a 0 (omega (arith, m.long))))

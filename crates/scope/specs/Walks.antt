@@ -1,12 +1,12 @@
 -- The walks of a ready file: from working lists that are all zero to the state that `lexical` resolves the file to.
 use Rattle.std.specs.Prelude.{ℕ, ◌≤◌, ◌≡◌, true, false, List, length}
 use Rattle.lexical.specs.Lists.{first}
-use Rattle.lexical.specs.Tree.{Forest, paramsIn}
+use Rattle.lexical.specs.Tree.{Forest, params_in}
 use Rattle.lexical.specs.First.{start}
 use Rattle.lexical.specs.Third.{resolved}
 use Rattle.lexical.specs.Records.{params_of}
-use Rattle.nodefile.specs.Layout.{nodesOf}
-use Rattle.nodefile.specs.FileOf.{fileOf}
+use Rattle.nodefile.specs.Layout.{nodes_of}
+use Rattle.nodefile.specs.FileOf.{file_of}
 use Rattle.store.specs.declared.ids.State.{State}
 use Rattle.store.specs.Sections.{Mem, mem, Long}
 use Rattle.store.specs.Image.{Image}
@@ -19,21 +19,21 @@ use Rattle.scope.specs.Ready.{Ready}
 
 -- each scope's parameter variables
 abbrev pub params_at : Forest → ℕ → ℕ
-params_at root s = params_of (first (counted s) (paramsIn root))
+params_at root s = params_of (first (counted s) (params_in root))
 
 -- the end: a list was full, or the working lists are those of the last state; m: the number of the module's bindings
 pub record Ended (bs : List ℕ) (root : Forest) (st : State) (n : ℕ) (m : Mem) : Type 0 where
-  pub over : st.full ≡ true → Over (resolved (fileOf bs root))
-  pub image : st.full ≡ false → Image (start (fileOf bs root)).made (params_at root) (caps (resolved (fileOf bs root))) (resolved (fileOf bs root)) st m
-  pub first : st.full ≡ false → n ≡ length (start (fileOf bs root)).made
+  pub over : st.full ≡ true → Over (resolved (file_of bs root))
+  pub image : st.full ≡ false → Image (start (file_of bs root)).made (params_at root) (caps (resolved (file_of bs root))) (resolved (file_of bs root)) st m
+  pub first : st.full ≡ false → n ≡ length (start (file_of bs root)).made
 
 -- a ready file whose lists are noted, before its nodes are walked over
 pub record Begun (list : List ℕ) (entries : ℕ) (m : Mem) : Type 0 where
   pub bs : List ℕ
   pub root : Forest
   pub ready : Ready bs root
-  pub list-is : list ≡ nodesOf bs
-  pub noted : Noted (fileOf bs root) entries m.binds m.t
+  pub list_is : list ≡ nodes_of bs
+  pub noted : Noted (file_of bs root) entries m.binds m.t
   pub blank : Zeros m.w
 
 pub record PreNodes (list : List ℕ) (entries : ℕ) (m : Mem) : Type 0 where
@@ -45,10 +45,10 @@ pub record NodesDone (list : List ℕ) (entries : ℕ) (m : Mem) (r : Walked) (m
 
 -- a ready file, and blank lists; what the walks leave in them
 pub record PreWalk (bs binds w : List ℕ) : Type 0 where
-  pub long-binds : 2304 ≤ length binds
-  pub long-w : length w ≡ 12544
-  pub blank-binds : Zeros binds
-  pub blank-w : Zeros w
+  pub long_binds : 2304 ≤ length binds
+  pub long_w : length w ≡ 12544
+  pub blank_binds : Zeros binds
+  pub blank_w : Zeros w
   pub root : Forest
   pub ready : Ready bs root
 

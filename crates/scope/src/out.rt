@@ -1,7 +1,7 @@
 // Zeros into the buffers, and the records out of the working lists.
 ghost use Rattle.std.specs.Prelude.{◌≡◌, ◌+◌, ◌≤◌, length, get_or, replicate};
 ghost use Rattle.scope.specs.Filled.{Filled};
-ghost use Rattle.answer.specs.Records.{entryFrom};
+ghost use Rattle.answer.specs.Records.{entry_from};
 
 pub fn clear32(to: &mut [u32])
     ensures { to.new ≡ replicate (length to.old) 0 }
@@ -37,7 +37,7 @@ pub fn copy_front(w: &[u32], off: usize, n: usize, to: &mut [u32])
 
 // A binding's module entry.
 fn entry_word(r: u64) -> u32
-    ensures { result ≡ entryFrom r }
+    ensures { result ≡ entry_from r }
 {
     answer::entry::make(
         answer::binding::name(r),
@@ -49,7 +49,7 @@ fn entry_word(r: u64) -> u32
 // The module's entries afterwards, one for each of the first n bindings.
 pub fn put_entries(binds: &[u64], n: usize, to: &mut [u32])
     requires { (n ≤ length binds.now) × (n ≤ length to.old) }
-    ensures { Filled (λ j. entryFrom (get_or binds.now j 0)) n to.old to.new }
+    ensures { Filled (λ j. entry_from (get_or binds.now j 0)) n to.old to.new }
 {
     let mut i = 0;
     while i < n {

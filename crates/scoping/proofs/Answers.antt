@@ -7,12 +7,12 @@ use native.Mathlib.Omega.{arith}
 use lib.ListN.{length, replicate, length-replicate}
 use Rattle.base.specs.Says.{Says}
 use Rattle.lexical.specs.Tree.{Forest}
-use Rattle.nodefile.specs.Layout.{nameCount, nodesOf, nodes-length}
-use Rattle.nodefile.specs.Reads.{Reads, reads-one}
+use Rattle.nodefile.specs.Layout.{name_count, nodes_of, nodes_length}
+use Rattle.nodefile.specs.Reads.{Reads, reads_one}
 use Rattle.nodefile.specs.Trees.{tree}
 use Rattle.header.specs.Header.{HeaderOk}
 use Rattle.shape.specs.Nodes.{Sound, sound}
-use Rattle.scoping.specs.Depth.{TooDeep, too-deep}
+use Rattle.scoping.specs.Depth.{TooDeep, too_deep}
 use Rattle.nodefile.specs.Height.{height}
 use Rattle.scoping.specs.Inside.Held.{Held}
 use Rattle.scoping.specs.Shaped.{Shaped}
@@ -26,29 +26,29 @@ pub record List8 (ns : List ℕ) : Type 0 where
   pub whole : length ns % 8 ≡ 0
   pub few : length ns ≤ 16384
 
-pub nodes-few : {bs ns : List ℕ} → HeaderOk bs → ns ≡ nodesOf bs → List8 ns
-nodes-few {bs} o e = let l = ap length e ∙ nodes-length bs o.total in record { whole = omega (arith, o.nodes); few = omega (arith, o.nodes) }
+pub nodes_few : {bs ns : List ℕ} → HeaderOk bs → ns ≡ nodes_of bs → List8 ns
+nodes_few {bs} o e = let l = ap length e ∙ nodes_length bs o.total in record { whole = omega (arith, o.nodes); few = omega (arith, o.nodes) }
 
 -- what 7 and 8 leave of it
-pub shape-sound : {bs ns : List ℕ} → Shaped bs → ns ≡ nodesOf bs → Sound ns
-shape-sound {bs} o e = subst Sound (sym e) (sound (nameCount bs) (nodesOf bs) o.nodes)
+pub shape_sound : {bs ns : List ℕ} → Shaped bs → ns ≡ nodes_of bs → Sound ns
+shape_sound {bs} o e = subst Sound (sym e) (sound (name_count bs) (nodes_of bs) o.nodes)
 
-pub params-known : {bs ns : List ℕ} → Shaped bs → ns ≡ nodesOf bs → AllKnown ns
-params-known {bs} o e = subst AllKnown (sym e) (all_known (nameCount bs) (nodesOf bs) o.nodes o.children o.header.names)
+pub params_known : {bs ns : List ℕ} → Shaped bs → ns ≡ nodes_of bs → AllKnown ns
+params_known {bs} o e = subst AllKnown (sym e) (all_known (name_count bs) (nodes_of bs) o.nodes o.children o.header.names)
 
 -- the tree that number 7 leaves
-pub sound-held : {ns : List ℕ} → Sound ns → Held ns
-sound-held {ns} s = let r = tree ns (record { root = s.root; local = s.fits }) in record { at = 0; forest = r.0; reads = r.1 }
+pub sound_held : {ns : List ℕ} → Sound ns → Held ns
+sound_held {ns} s = let r = tree ns (record { root = s.root; local = s.fits }) in record { at = 0; forest = r.0; reads = r.1 }
 
 says_map : (b : Bool) {P Q : Type 0} → (P → Q) → (Q → P) → Says b P → Says b Q
 says_map true f g h = f h
 says_map false f g h = λ q. h (g q)
 
 -- what a walk says of every forest that the list holds it says of number 9
-pub says-depth : (b : Bool) {ns : List ℕ} → Sound ns → ((at : ℕ) (f : Forest) → Reads ns at f → Says b (64 < height f)) → Says b (TooDeep ns)
-says-depth b {ns} s h =
+pub says_depth : (b : Bool) {ns : List ℕ} → Sound ns → ((at : ℕ) (f : Forest) → Reads ns at f → Says b (64 < height f)) → Says b (TooDeep ns)
+says_depth b {ns} s h =
     let r = tree ns (record { root = s.root; local = s.fits }) in
-    says_map b (λ l. too-deep r.0 r.1 l) (λ d. elim d [ too-deep g q l ↦ subst (λ (x : Forest). 64 < height x) (reads-one g r.0 ns 0 q r.1) l ]) (h 0 r.0 r.1)
+    says_map b (λ l. too_deep r.0 r.1 l) (λ d. elim d [ too_deep g q l ↦ subst (λ (x : Forest). 64 < height x) (reads_one g r.0 ns 0 q r.1) l ]) (h 0 r.0 r.1)
 
 pub unset : Unset (replicate 256 0)
 unset = record { size = length-replicate {A = ℕ} 256 0; zero = zeros 256 }

@@ -32,12 +32,12 @@ pub record Cell (ns found : List ℕ) (v c : ℕ) (t : List ℕ) : Type 0 where
   pub some : 0 < size_of t
   pub inside : 8 * size_of t ≤ length t
 
-pub cell-kids : {ns found : List ℕ} {v c s : ℕ} {t : List ℕ} (h : Cell ns found v c t) → s ≡ size_of t → take (8 * s - 8) (drop 8 t) ≡ below (at ns h.node)
-cell-kids {t = t} h e = below-is t e ∙ ap below h.part
+pub cell_kids : {ns found : List ℕ} {v c s : ℕ} {t : List ℕ} (h : Cell ns found v c t) → s ≡ size_of t → take (8 * s - 8) (drop 8 t) ≡ below (at ns h.node)
+cell_kids {t = t} h e = below-is t e ∙ ap below h.part
 
 module _ {ns found : List ℕ} (s : Sound ns) (f : Found ns found) where
-  pub cell-here : (v c : ℕ) → c ≡ get_or found v 0 → (c ≡ 0 → ⊥) → Cell ns found v c (take (length ns - 8 * (c - 1)) (drop (8 * (c - 1)) ns))
-  cell-here v c e z =
+  pub cell_here : (v c : ℕ) → c ≡ get_or found v 0 → (c ≡ 0 → ⊥) → Cell ns found v c (take (length ns - 8 * (c - 1)) (drop (8 * (c - 1)) ns))
+  cell_here v c e z =
       record {
         node = o.node;
         is = o.is;
@@ -65,15 +65,15 @@ module _ {ns found : List ℕ} (s : Sound ns) (f : Found ns found) where
 
   module _ {marks : List ℕ} {v : ℕ} (a : Apart ns marks v) where
     -- every number is below v
-    pub apart-all : ((i : ℕ) → Scope ns i → number ns i < v) → BadParams ns → ⊥
-    apart-all b (same_name i l e vs p d) = let o : Scope ns i = record { inside = l; scope = e } in d (a.differ i o (b i o) vs p)
+    pub apart_all : ((i : ℕ) → Scope ns i → number ns i < v) → BadParams ns → ⊥
+    apart_all b (same_name i l e vs p d) = let o : Scope ns i = record { inside = l; scope = e } in d (a.differ i o (b i o) vs p)
 
     module _ {c size : ℕ} {t : List ℕ} (h : Cell ns found v c t) (e : size ≡ size_of t) where
       -- two of its Params have one name
-      pub apart-fault : ((vs : List ℕ) → ParamNames (take (8 * size - 8) (drop 8 t)) vs → Distinct vs → ⊥) → BadParams ns
-      apart-fault g =
+      pub apart_fault : ((vs : List ℕ) → ParamNames (take (8 * size - 8) (drop 8 t)) vs → Distinct vs → ⊥) → BadParams ns
+      apart_fault g =
           let p = params-some (s.fits h.node h.is.inside).1 in
-          same_name h.node h.is.inside h.is.scope p.0 p.1 (g p.0 (subst (λ (u : List ℕ). ParamNames u p.0) (sym (cell-kids h e)) p.1))
+          same_name h.node h.is.inside h.is.scope p.0 p.1 (g p.0 (subst (λ (u : List ℕ). ParamNames u p.0) (sym (cell_kids h e)) p.1))
 
       -- all of them differ
       pub apart_more : {marks' : List ℕ} → ((vs : List ℕ) → ParamNames (take (8 * size - 8) (drop 8 t)) vs → Distinct vs) → Fresh marks' (v + 1) → Apart ns marks' (v + 1)
@@ -82,4 +82,4 @@ module _ {ns found : List ℕ} (s : Sound ns) (f : Found ns found) where
           this : (i : ℕ) → Scope ns i → number ns i ≡ v → (vs : List ℕ) → ParamNames (below (at ns i)) vs → Distinct vs
           this i p q vs w =
               let same : i ≡ h.node = omega (arith, f.note i p, ap (λ (x : ℕ). get_or found x 0) q, h.cell) in
-              g vs (subst (λ (u : List ℕ). ParamNames u vs) (ap (λ (x : ℕ). below (at ns x)) same ∙ sym (cell-kids h e)) w)
+              g vs (subst (λ (u : List ℕ). ParamNames u vs) (ap (λ (x : ℕ). below (at ns x)) same ∙ sym (cell_kids h e)) w)

@@ -9,18 +9,18 @@ use Rattle.nodefile.specs.Node.{size_of, below}
 use Rattle.nodefile.specs.Reads.{Reads}
 use Rattle.nodefile.specs.Height.{height}
 use Rattle.scoping.specs.Inside.Held.{Held}
-use Rattle.nodefile.specs.Fitting.{rest-is, below-is}
+use Rattle.nodefile.specs.Fitting.{rest_is, below-is}
 
 -- no deeper than there are nodes
-pub height-nodes : (f : Forest) (t : List ℕ) (at : ℕ) → Reads t at f → 8 * height f ≤ length t
-height-nodes nil t at r = omega arith
-height-nodes (node a k v kids rest) t at r =
+pub height_nodes : (f : Forest) (t : List ℕ) (at : ℕ) → Reads t at f → 8 * height f ≤ length t
+height_nodes nil t at r = omega arith
+height_nodes (node a k v kids rest) t at r =
     omega (
       arith,
       r.some,
       r.inside,
-      height-nodes kids (below t) (at + 1) r.under,
-      height-nodes rest (drop (8 * size_of t) t) (at + size_of t) r.after,
+      height_nodes kids (below t) (at + 1) r.under,
+      height_nodes rest (drop (8 * size_of t) t) (at + size_of t) r.after,
       length-take (8 * size_of t - 8) (drop 8 t),
       length-drop 8 t,
       length-drop (8 * size_of t) t,
@@ -52,13 +52,13 @@ pub record Deep (t : List ℕ) (left : ℕ) (u : List ℕ) : Type 0 where
   pub held : Held u
   pub step : (at : ℕ) (f : Forest) → Reads t at f → Step left u f
 
-pub deep-all : {t : List ℕ} (left : ℕ) → Held t → Deep t left t
-deep-all left h = record { held = h; step = λ at f r. record { at = at; forest = f; reads = r; to = λ x. x; from = λ x. x } }
+pub deep_all : {t : List ℕ} (left : ℕ) → Held t → Deep t left t
+deep_all left h = record { held = h; step = λ at f r. record { at = at; forest = f; reads = r; to = λ x. x; from = λ x. x } }
 
 module _ {t : List ℕ} {left : ℕ} {u : List ℕ} (d : Deep t left u) where
   -- what is left has no more nodes than levels
-  pub deep-end : length u ≤ 8 * left → (at : ℕ) (f : Forest) → Reads t at f → left < height f → ⊥
-  deep-end h at f r l = let s = d.step at f r in omega (arith, s.to l, height-nodes s.forest u s.at s.reads)
+  pub deep_end : length u ≤ 8 * left → (at : ℕ) (f : Forest) → Reads t at f → left < height f → ⊥
+  deep_end h at f r l = let s = d.step at f r in omega (arith, s.to l, height_nodes s.forest u s.at s.reads)
 
   module _ (h : 0 < length u) where
     first : Split u d.held.at d.held.forest
@@ -69,18 +69,18 @@ module _ {t : List ℕ} {left : ℕ} {u : List ℕ} (d : Deep t left u) where
     deep_none z at f r = let s = d.step at f r in s.from (omega (arith, (split s.forest u s.at s.reads h).tall))
 
     module _ {s : ℕ} (e : s ≡ size_of u) where
-      pub deep-size : (0 < s) × (8 * s ≤ length u)
-      deep-size = omega (arith, first.some, first.inside)
+      pub deep_size : (0 < s) × (8 * s ≤ length u)
+      deep_size = omega (arith, first.some, first.inside)
 
-      pub deep-kids : Held (take (8 * s - 8) (drop 8 u))
-      deep-kids = record { at = d.held.at + 1; forest = first.kids; reads = subst (λ (v : List ℕ). Reads v (d.held.at + 1) first.kids) (sym (below-is u e)) first.under }
+      pub deep_kids : Held (take (8 * s - 8) (drop 8 u))
+      deep_kids = record { at = d.held.at + 1; forest = first.kids; reads = subst (λ (v : List ℕ). Reads v (d.held.at + 1) first.kids) (sym (below-is u e)) first.under }
 
       held_after : Held (take (length u - 8 * s) (drop (8 * s) u))
-      held_after = record { at = d.held.at + size_of u; forest = first.rest; reads = subst (λ (v : List ℕ). Reads v (d.held.at + size_of u) first.rest) (sym (rest-is u e)) first.after }
+      held_after = record { at = d.held.at + size_of u; forest = first.rest; reads = subst (λ (v : List ℕ). Reads v (d.held.at + size_of u) first.rest) (sym (rest_is u e)) first.after }
 
       -- what the first tree's children said
-      pub deep-under : 0 < left → ((at : ℕ) (g : Forest) → Reads (take (8 * s - 8) (drop 8 u)) at g → left - 1 < height g) → (at : ℕ) (f : Forest) → Reads t at f → left < height f
-      deep-under z g at f r =
+      pub deep_under : 0 < left → ((at : ℕ) (g : Forest) → Reads (take (8 * s - 8) (drop 8 u)) at g → left - 1 < height g) → (at : ℕ) (f : Forest) → Reads t at f → left < height f
+      deep_under z g at f r =
           let p = d.step at f r in
           let q = split p.forest u p.at p.reads h in
           p.from (omega (arith, q.tall, g (p.at + 1) q.kids (subst (λ (v : List ℕ). Reads v (p.at + 1) q.kids) (sym (below-is u e)) q.under)))
@@ -95,7 +95,7 @@ module _ {t : List ℕ} {left : ℕ} {u : List ℕ} (d : Deep t left u) where
               record {
                 at = p.at + size_of u;
                 forest = q.rest;
-                reads = subst (λ (v : List ℕ). Reads v (p.at + size_of u) q.rest) (sym (rest-is u e)) q.after;
+                reads = subst (λ (v : List ℕ). Reads v (p.at + size_of u) q.rest) (sym (rest_is u e)) q.after;
                 to = λ x. let y = p.to x in omega (arith, q.tall, n);
                 from = λ x. p.from (omega (arith, q.tall));
               }

@@ -6,4 +6,4 @@ use Rattle.nodefile.specs.Height.{height}
 
 -- 9: depth 65 or more
 pub data TooDeep (ns : List ℕ) : Type 0 where
-  too-deep : (f : Forest) → Reads ns 0 f → 64 < height f → TooDeep ns
+  too_deep : (f : Forest) → Reads ns 0 f → 64 < height f → TooDeep ns

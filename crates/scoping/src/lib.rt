@@ -5,12 +5,12 @@ mod scopes;
 
 ghost use Rattle.base.specs.First.{First};
 ghost use Rattle.scoping.specs.Shaped.{Shaped};
-ghost use Rattle.scoping.specs.Rows.{scopeRows};
+ghost use Rattle.scoping.specs.Rows.{scope_rows};
 
 // Numbers 9 to 11, of a file that 2 to 4, 7 and 8 let pass.
 pub fn judge_scopes(file: &[u8]) -> u64
     requires { Shaped file.now }
-    ensures { First (scopeRows file.now) result }
+    ensures { First (scope_rows file.now) result }
 {
     let list = nodefile::nodes(file);
     if depth::deeper(list, 64) {

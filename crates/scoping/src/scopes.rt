@@ -1,6 +1,6 @@
 // Number 10: the scope numbers.
 ghost use Rattle.std.specs.Prelude.{◌≡◌, false, ◌*◌, ◌%◌, ◌≤◌, max, length};
-ghost use Rattle.nodefile.specs.Limits.{manyNodes};
+ghost use Rattle.nodefile.specs.Limits.{many_nodes};
 ghost use Rattle.base.specs.Says.{Says};
 ghost use Rattle.scoping.specs.Scopes.{BadScopes};
 ghost use Rattle.scoping.specs.Inside.Found.{Unset, Found};
@@ -16,7 +16,7 @@ fn larger(a: usize, b: usize) -> usize
 
 // Number 10 of the whole list; notes where each scope number stands.
 pub fn bad_scopes(ns: &[u8], found: &mut [u16; 256]) -> bool
-    requires { (length ns.now % 8 ≡ 0) × (length ns.now ≤ 8 * manyNodes) × Unset found.old }
+    requires { (length ns.now % 8 ≡ 0) × (length ns.now ≤ 8 * many_nodes) × Unset found.old }
     ensures { Says result (BadScopes ns.now) × (result ≡ false → Found ns.now found.new) }
 {
     let mut next: u16 = 0;

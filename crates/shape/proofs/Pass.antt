@@ -22,12 +22,12 @@ module _ {ns : List ℕ} {P : ℕ → Type 0} {t : List ℕ} (p : Passed ns P t)
   left : length t ≡ length ns - 8 * p.here
   left = ap length p.part ∙ length-drop (8 * p.here) ns
 
-  pub passed-inside : 8 ≤ length t → 8 * p.here < length ns
-  passed-inside h = omega (arith, left)
+  pub passed_inside : 8 ≤ length t → 8 * p.here < length ns
+  passed_inside h = omega (arith, left)
 
   -- `&t[8..]`, as the check has it
-  pub passed-more : P p.here → Passed ns P (take (length t - 8) (drop 8 t))
-  passed-more h =
+  pub passed_more : P p.here → Passed ns P (take (length t - 8) (drop 8 t))
+  passed_more h =
       let e : 8 * p.here + 8 ≡ 8 * (p.here + 1) = omega arith in
       record {
         here = p.here + 1;
@@ -35,5 +35,5 @@ module _ {ns : List ℕ} {P : ℕ → Type 0} {t : List ℕ} (p : Passed ns P t)
         holds = below_more P p.here p.holds h;
       }
 
-  pub passed-all : length t < 8 → length ns % 8 ≡ 0 → (k : ℕ) → 8 * k < length ns → P k
-  passed-all h m k l = p.holds k (omega (arith, left))
+  pub passed_all : length t < 8 → length ns % 8 ≡ 0 → (k : ℕ) → 8 * k < length ns → P k
+  passed_all h m k l = p.holds k (omega (arith, left))

@@ -7,7 +7,7 @@ use native.Mathlib.Omega.{arith}
 use native.Mathlib.Decide.{dec_le}
 use borrow.Author.Tests.{lt-leb, eq-eqb}
 use lib.Dec.{leb, eqb}
-use Rattle.lexical.specs.Table.{Item, one, opt, many, row, within, headIn, dropOne, dropMany, is_empty, matches, allowed}
+use Rattle.lexical.specs.Table.{Item, one, opt, many, row, within, head_in, drop_one, drop_many, is_empty, matches, allowed}
 use Rattle.shape.specs.Inside.Code.{never, rest_of, needed}
 
 -- nothing fills `never`
@@ -16,33 +16,33 @@ unfolding within
 none_within k = elim (dec_le 31 k) [ yes h ↦ rw (lt-leb k 0 (omega arith)) (and-false (leb 31 k)) | no h ↦ rw (lt-leb 31 k (omega arith)) ]
 
 never-matches : (ks : List ℕ) → matches never ks ≡ false
-unfolding matches headIn
+unfolding matches head_in
 never-matches [] = refl
 never-matches (k ∷ ks) = rw (none_within k)
 
 -- a child first: the row goes by what is left of it
-pub matches-rest : (is : List Item) (k : ℕ) (ks : List ℕ) → matches is (k ∷ ks) ≡ matches (rest_of is k) ks
-unfolding matches headIn dropOne dropMany is_empty
-matches-rest [] k ks = sym (never-matches ks)
-matches-rest (one lo hi ∷ is) k ks = pick (within lo hi k)
+pub matches_rest : (is : List Item) (k : ℕ) (ks : List ℕ) → matches is (k ∷ ks) ≡ matches (rest_of is k) ks
+unfolding matches head_in drop_one drop_many is_empty
+matches_rest [] k ks = sym (never-matches ks)
+matches_rest (one lo hi ∷ is) k ks = pick (within lo hi k)
   where
     pick : (b : Bool) → (b && matches is (cond b ks (k ∷ ks))) ≡ matches (cond b is never) ks
     pick true = refl
     pick false = sym (never-matches ks)
-matches-rest (opt lo hi ∷ is) k ks = pick (within lo hi k) (matches-rest is k ks)
+matches_rest (opt lo hi ∷ is) k ks = pick (within lo hi k) (matches_rest is k ks)
   where
     pick : (b : Bool) → matches is (k ∷ ks) ≡ matches (rest_of is k) ks → matches is (cond b ks (k ∷ ks)) ≡ matches (cond b is (rest_of is k)) ks
     pick true e = refl
     pick false e = e
-matches-rest (many lo hi ∷ is) k ks = pick (within lo hi k) (matches-rest is k ks)
+matches_rest (many lo hi ∷ is) k ks = pick (within lo hi k) (matches_rest is k ks)
   where
-    pick : (b : Bool) → matches is (k ∷ ks) ≡ matches (rest_of is k) ks → matches is (cond b (dropMany lo hi ks) (k ∷ ks)) ≡ matches (cond b (many lo hi ∷ is) (rest_of is k)) ks
+    pick : (b : Bool) → matches is (k ∷ ks) ≡ matches (rest_of is k) ks → matches is (cond b (drop_many lo hi ks) (k ∷ ks)) ≡ matches (cond b (many lo hi ∷ is) (rest_of is k)) ks
     pick true e = refl
     pick false e = e
 
 -- no child is left
 pub matches-none : (is : List Item) → matches is [] ≡ eqb (needed is) 0
-unfolding matches headIn dropOne dropMany is_empty
+unfolding matches head_in drop_one drop_many is_empty
 matches-none [] = refl
 matches-none (one lo hi ∷ is) = refl
 matches-none (opt lo hi ∷ is) = matches-none is
@@ -58,9 +58,9 @@ allowed-row k ks e = rw e (or (eqb k 17 && is_empty ks))
     or true = refl
     or false = refl
 
-pub allowed-other : (k : ℕ) (ks : List ℕ) → (eqb k 17 && is_empty ks) ≡ false → matches (row k) ks ≡ false → allowed k ks ≡ false
+pub allowed_other : (k : ℕ) (ks : List ℕ) → (eqb k 17 && is_empty ks) ≡ false → matches (row k) ks ≡ false → allowed k ks ≡ false
 unfolding allowed
-allowed-other k ks n e = rw (n, e)
+allowed_other k ks n e = rw (n, e)
 
 pub allowed-bare : (k : ℕ) → k ≡ 17 → allowed k [] ≡ true
 unfolding allowed is_empty

@@ -7,5 +7,5 @@ use Rattle.shape.specs.Nodes.{at}
 
 -- 8: the root no statement, or children other than the table allows
 pub data BadChildren (ns : List ℕ) : Type 0 where
-  root-no-statement : 7 < kind_of ns → BadChildren ns
-  other-children : (i : ℕ) → 8 * i < length ns → (ks : List ℕ) → Kids (below (at ns i)) ks → allowed (kind_of (at ns i)) ks ≡ false → BadChildren ns
+  root_no_statement : 7 < kind_of ns → BadChildren ns
+  other_children : (i : ℕ) → 8 * i < length ns → (ks : List ℕ) → Kids (below (at ns i)) ks → allowed (kind_of (at ns i)) ks ≡ false → BadChildren ns

@@ -4,12 +4,12 @@ mod nodes;
 
 ghost use Rattle.std.specs.Prelude.{◌≡◌};
 ghost use Rattle.base.specs.First.{First};
-ghost use Rattle.shape.specs.Nodes.{hasScope};
-ghost use Rattle.shape.specs.Rows.{shapeRows};
+ghost use Rattle.shape.specs.Nodes.{has_scope};
+ghost use Rattle.shape.specs.Rows.{shape_rows};
 
 // Whether a kind has a scope number: Def and Lambda.
 pub fn is_scope(kind: u64) -> bool
-    ensures { result ≡ hasScope kind }
+    ensures { result ≡ has_scope kind }
 {
     match kind {
         6 | 12 => true,
@@ -19,7 +19,7 @@ pub fn is_scope(kind: u64) -> bool
 
 // Numbers 7 and 8.
 pub fn judge_shape(file: &[u8]) -> u64
-    ensures { First (shapeRows file.now) result }
+    ensures { First (shape_rows file.now) result }
 {
     let known = nodefile::name_count(file);
     let list = nodefile::nodes(file);

@@ -8,14 +8,14 @@ use native.Mathlib.Omega.{arith}
 use lib.ListN.{length, get_or, set, drop, get_elem?, drop_of_length-le}
 use Rattle.lexical.specs.Lists.{none-some, Opened, absent, present, opened}
 use Rattle.lexical.specs.State.{Binding}
-use Rattle.answer.specs.Records.{bindingName}
+use Rattle.answer.specs.Records.{binding_name}
 use Rattle.store.specs.Sections.{mem}
 use Rattle.store.specs.Meanings.{SavedAll}
 use Rattle.store.specs.Rel.{Rel}
 use Rattle.store.specs.Scoping.{Opening, Closing}
-use Rattle.store.specs.Laws.Points.{absent-past}
-use Rattle.store.specs.Laws.Made.{made-name, made-few}
-use Rattle.store.specs.Laws.Reach.{rel-push, rel-pop}
+use Rattle.store.specs.Laws.Points.{absent_past}
+use Rattle.store.specs.Laws.Made.{made_name, made_few}
+use Rattle.store.specs.Laws.Reach.{rel_push, rel_pop}
 
 -- ---- lists
 
@@ -44,8 +44,8 @@ module _ {binds t₀ : List ℕ} {lo hi : ℕ} (g : Opening binds t₀ lo hi) wh
   abbrev pub Opens : ℕ → List ℕ → Type 0
   Opens k t = Rel g.W (drop (k - lo) g.bs ++ g.env) g.ss g.cap g.st g.s (mem binds g.w t)
 
-  pub opens-few : hi ≤ 2304
-  opens-few = omega (arith, g.range.within, g.rel.image.made.few)
+  pub opens_few : hi ≤ 2304
+  opens_few = omega (arith, g.range.within, g.rel.image.made.few)
 
   pub opens-start : Opens hi t₀
   opens-start = let e : drop (hi - lo) g.bs ≡ [] = gone g.bs (hi - lo) (omega (arith, g.range.end)) in rw e g.rel
@@ -58,15 +58,15 @@ module _ {binds t₀ : List ℕ} {lo hi : ℕ} (g : Opening binds t₀ lo hi) wh
   stands : (j : ℕ) (b : Binding) → get_elem? g.bs j ≡ some b → (b.id ≡ lo + j) × (get_elem? g.st.made b.id ≡ some b)
   stands j b e = let q = g.range.are j b e in let i = (g.rel.image.made.sound (lo + j) b q).id in (i, ap (get_elem? g.st.made) i ∙ q)
 
-  pub opens-next : (k name : ℕ) (t : List ℕ) → lo < k → k ≤ hi → name ≡ bindingName (get_or binds (k - 1) 0) → Next k name t
+  pub opens-next : (k name : ℕ) (t : List ℕ) → lo < k → k ≤ hi → name ≡ binding_name (get_or binds (k - 1) 0) → Next k name t
   opens-next k name t l h n = go (opened (get_elem? g.bs (k - 1 - lo)))
     where
       go : Opened (get_elem? g.bs (k - 1 - lo)) → Next k name t
-      go (absent e) = absurd (omega (arith, g.range.end, absent-past g.bs (k - 1 - lo) e))
+      go (absent e) = absurd (omega (arith, g.range.end, absent_past g.bs (k - 1 - lo) e))
       go (present b e) =
           record {
             small = rw m (g.rel.image.made.sound b.id b st).name;
-            opens = λ long r. rw (front, m, ← i) (rel-push long b r st (g.range.locals (k - 1 - lo) b e) new);
+            opens = λ long r. rw (front, m, ← i) (rel_push long b r st (g.range.locals (k - 1 - lo) b e) new);
           }
         where
           i : b.id ≡ k - 1
@@ -76,7 +76,7 @@ module _ {binds t₀ : List ℕ} {lo hi : ℕ} (g : Opening binds t₀ lo hi) wh
           st = (stands (k - 1 - lo) b e).1
 
           m : name ≡ b.var.name
-          m = n ∙ (rw (← i) (made-name g.rel.image.made b.id b st))
+          m = n ∙ (rw (← i) (made_name g.rel.image.made b.id b st))
 
           front : drop (k - 1 - lo) g.bs ≡ b ∷ drop (k - lo) g.bs
           front = let q : suc (k - 1 - lo) ≡ k - lo = omega arith in drop_at g.bs (k - 1 - lo) b e ∙ (rw q refl)
@@ -88,8 +88,8 @@ module _ {binds t₀ : List ℕ} {lo hi : ℕ} (g : Opening binds t₀ lo hi) wh
               (λ a. g.apart a.0 x a.1 (omega (arith, i)) (omega (arith, i)))
               (at_joined (drop (k - lo) g.bs) g.env j x q)
 
-  pub opens-end : (k : ℕ) (t : List ℕ) → k ≤ lo → Opens k t → Rel g.W (g.bs ++ g.env) g.ss g.cap g.st g.s (mem binds g.w t)
-  opens-end k t h r = let e : k - lo ≡ 0 = omega arith in rw e at r
+  pub opens_end : (k : ℕ) (t : List ℕ) → k ≤ lo → Opens k t → Rel g.W (g.bs ++ g.env) g.ss g.cap g.st g.s (mem binds g.w t)
+  opens_end k t h r = let e : k - lo ≡ 0 = omega arith in rw e at r
 
 -- ---- unscope
 
@@ -102,20 +102,20 @@ module _ {binds t₀ : List ℕ} {lo hi : ℕ} (g : Closing binds t₀ lo hi) wh
 
   pub record After (k name : ℕ) (t : List ℕ) : Type 0 where
     pub few : k < 2304
-    pub small : name ≡ bindingName (get_or binds k 0) → name < 1024
-    pub closes : length t ≡ 20864 → name ≡ bindingName (get_or binds k 0) → Closes (k + 1) (set t name (get_or t (5120 + k) 0))
+    pub small : name ≡ binding_name (get_or binds k 0) → name < 1024
+    pub closes : length t ≡ 20864 → name ≡ binding_name (get_or binds k 0) → Closes (k + 1) (set t name (get_or t (5120 + k) 0))
 
   pub closes-next : (k name : ℕ) (t : List ℕ) → lo ≤ k → k < hi → Closes k t → After k name t
   unfolding SavedAll
   closes-next k name t l h r = go (opened (get_elem? g.bs (k - lo)))
     where
       go : Opened (get_elem? g.bs (k - lo)) → After k name t
-      go (absent e) = absurd (omega (arith, g.end, absent-past g.bs (k - lo) e))
+      go (absent e) = absurd (omega (arith, g.end, absent_past g.bs (k - lo) e))
       go (present b e) =
           record {
-            few = omega (arith, i, made-few r.image.made b.id b st);
+            few = omega (arith, i, made_few r.image.made b.id b st);
             small = λ n. rw (m n) (r.image.made.sound b.id b st).name;
-            closes = λ long n. rw (m n) (rw i at (rel-pop long b r'));
+            closes = λ long n. rw (m n) (rw i at (rel_pop long b r'));
           }
         where
           i : b.id ≡ k
@@ -127,8 +127,8 @@ module _ {binds t₀ : List ℕ} {lo hi : ℕ} (g : Closing binds t₀ lo hi) wh
           st : get_elem? g.st.made b.id ≡ some b
           st = r'.around.saved.0.stands
 
-          m : name ≡ bindingName (get_or binds k 0) → name ≡ b.var.name
-          m n = n ∙ (rw (← i) (made-name r.image.made b.id b st))
+          m : name ≡ binding_name (get_or binds k 0) → name ≡ b.var.name
+          m n = n ∙ (rw (← i) (made_name r.image.made b.id b st))
 
-  pub closes-end : (k : ℕ) (t : List ℕ) → hi ≤ k → Closes k t → Rel g.W g.env g.ss g.cap g.st g.s (mem binds g.w t)
-  closes-end k t h r = let e : drop (k - lo) g.bs ≡ [] = gone g.bs (k - lo) (omega (arith, g.end)) in rw e at r
+  pub closes_end : (k : ℕ) (t : List ℕ) → hi ≤ k → Closes k t → Rel g.W g.env g.ss g.cap g.st g.s (mem binds g.w t)
+  closes_end k t h r = let e : drop (k - lo) g.bs ≡ [] = gone g.bs (k - lo) (omega (arith, g.end)) in rw e at r

@@ -8,23 +8,23 @@ use native.Mathlib.Omega.{arith}
 use native.Mathlib.Decide.{ℕ_discrete}
 use lib.ListN.{length, get_or, take, get_elem?}
 use lib.Seq.{length-take-le, take-take}
-use Rattle.lexical.specs.Lists.{first, map_o, or_else, orElse-none, orElse-assoc, eqb-self, eqb-not, none-some, Opened, absent, present, opened}
+use Rattle.lexical.specs.Lists.{first, map_o, or_else, or_else_none, or_else_assoc, eqb_self, eqb-not, none-some, Opened, absent, present, opened}
 use Rattle.lexical.specs.Places.{at-below}
 use Rattle.lexical.specs.State.{Slot}
-use Rattle.lexical.specs.Third.{holds, handIn}
-use Rattle.lexical.specs.Proof.Slots.{hand-snoc}
-use Rattle.answer.specs.Records.{slotScope}
+use Rattle.lexical.specs.Third.{holds, hand_in}
+use Rattle.lexical.specs.Proof.Slots.{hand_snoc}
+use Rattle.answer.specs.Records.{slot_scope}
 use Rattle.store.specs.Sections.{or_zero}
-use Rattle.store.specs.Words.{slotWord}
+use Rattle.store.specs.Words.{slot_word}
 use Rattle.store.specs.Image.{last_of, before, SlotsIn}
 use Rattle.store.specs.Hands.{Slotted}
-use Rattle.store.specs.Laws.Points.{absent-past, word-at}
-use Rattle.store.specs.Laws.Chain.{Last, last-is}
+use Rattle.store.specs.Laws.Points.{absent_past, word_at_lem}
+use Rattle.store.specs.Laws.Chain.{Last, last_is}
 
 -- what is found so far: 0 for nothing, or one more than the slot
-abbrev pub bestOf : ℕ → Option ℕ
-bestOf zero = none
-bestOf (suc k) = some k
+abbrev pub best_of : ℕ → Option ℕ
+best_of zero = none
+best_of (suc k) = some k
 
 -- ---- lists
 
@@ -45,43 +45,43 @@ at_take (x ∷ xs) (suc j) (suc i) h = at_take xs j i (omega arith)
 pub record Led (rs : List Slot) (s i c best : ℕ) : Type 0 where
   pub few : c ≤ length rs
   pub here : (j : ℕ) (r : Slot) → c ≡ suc j → get_elem? rs j ≡ some r → r.id ≡ i
-  pub hand : handIn s i rs ≡ or_else (handIn s i (take c rs)) (bestOf best)
+  pub hand : hand_in s i rs ≡ or_else (hand_in s i (take c rs)) (best_of best)
 
 -- what `found` gives at slot record j
 pub record Seen (w t : List ℕ) (s j best x : ℕ) : Type 0 where
-  pub here : slotScope (get_or w (2048 + j) 0) ≡ s → x ≡ get_or t (16640 + j) 0 + 1
-  pub other : (slotScope (get_or w (2048 + j) 0) ≡ s → ⊥) → x ≡ best
+  pub here : slot_scope (get_or w (2048 + j) 0) ≡ s → x ≡ get_or t (16640 + j) 0 + 1
+  pub other : (slot_scope (get_or w (2048 + j) 0) ≡ s → ⊥) → x ≡ best
 
-pub led-end : {rs : List Slot} {s i c best : ℕ} → c ≤ 0 → Led rs s i c best → handIn s i rs ≡ bestOf best
-unfolding handIn first map_o or_else
-led-end {c = c} h l = let z : c ≡ 0 = omega arith in l.hand ∙ (rw z refl)
+pub led_end : {rs : List Slot} {s i c best : ℕ} → c ≤ 0 → Led rs s i c best → hand_in s i rs ≡ best_of best
+unfolding hand_in first map_o or_else
+led_end {c = c} h l = let z : c ≡ 0 = omega arith in l.hand ∙ (rw z refl)
 
 module _ {rs : List Slot} {P : ℕ → ℕ} {w t : List ℕ} (m : SlotsIn rs P w t) (s i : ℕ) where
-  pub led-start : i < 2304 → Led rs s i (get_or t (9728 + i) 0) 0
-  led-start h =
-      let l = last-is i rs in
-      rw (m.tail i h) (record { few = l.few; here = l.here; hand = l.hand s ∙ sym (orElse-none _) })
+  pub led_start : i < 2304 → Led rs s i (get_or t (9728 + i) 0) 0
+  led_start h =
+      let l = last_is i rs in
+      rw (m.tail i h) (record { few = l.few; here = l.here; hand = l.hand s ∙ sym (or_else_none _) })
 
   -- the binding that slot record j holds, and the slots before it
   back_is : (j : ℕ) (r : Slot) → get_elem? rs j ≡ some r → r.id ≡ i → get_or t (12544 + j) 0 ≡ last_of i (take j rs)
   unfolding before or_zero
   back_is j r e q = m.back j (omega (arith, m.few, at-below rs j r e)) ∙ (rw (e, q) refl)
 
-  found-is : (j best x : ℕ) (r : Slot) → get_elem? rs j ≡ some r → r.id ≡ i → Seen w t s j best x → or_else (cond (holds s i r) (some r.num) none) (bestOf best) ≡ bestOf x
-  unfolding holds or_else slotWord
+  found-is : (j best x : ℕ) (r : Slot) → get_elem? rs j ≡ some r → r.id ≡ i → Seen w t s j best x → or_else (cond (holds s i r) (some r.num) none) (best_of best) ≡ best_of x
+  unfolding holds or_else slot_word
   found-is j best x r e q f =
       let h : j < 4096 = omega (arith, m.few, at-below rs j r e) in
-      let a : slotScope (get_or w (2048 + j) 0) ≡ r.scope = omega (arith, m.rows j h, word-at slotWord rs j r e, (m.sound j r e).0, (m.sound j r e).2) in
+      let a : slot_scope (get_or w (2048 + j) 0) ≡ r.scope = omega (arith, m.rows j h, word_at_lem slot_word rs j r e, (m.sound j r e).0, (m.sound j r e).2) in
       elim (ℕ_discrete r.scope s) [
-        | yes z ↦ let y : x ≡ suc r.num = omega (arith, f.here (a ∙ z), m.nums j h, word-at (λ (r : Slot). r.num) rs j r e) in rw (y, z, q, eqb-self s, eqb-self i) refl
+        | yes z ↦ let y : x ≡ suc r.num = omega (arith, f.here (a ∙ z), m.nums j h, word_at_lem (λ (r : Slot). r.num) rs j r e) in rw (y, z, q, eqb_self s, eqb_self i) refl
         | no z ↦ let y : x ≡ best = f.other (λ u. z (sym a ∙ u)) in rw (y, eqb-not r.scope s z) refl
       ]
 
-  led-next : (c best x : ℕ) → 0 < c → Led rs s i c best → Seen w t s (c - 1) best x → (get_or t (12544 + (c - 1)) 0 < c) × Led rs s i (get_or t (12544 + (c - 1)) 0) x
-  led-next c best x p l f = go (opened (get_elem? rs (c - 1)))
+  led_next : (c best x : ℕ) → 0 < c → Led rs s i c best → Seen w t s (c - 1) best x → (get_or t (12544 + (c - 1)) 0 < c) × Led rs s i (get_or t (12544 + (c - 1)) 0) x
+  led_next c best x p l f = go (opened (get_elem? rs (c - 1)))
     where
       go : Opened (get_elem? rs (c - 1)) → (get_or t (12544 + (c - 1)) 0 < c) × Led rs s i (get_or t (12544 + (c - 1)) 0) x
-      go (absent e) = absurd (omega (arith, l.few, absent-past rs (c - 1) e))
+      go (absent e) = absurd (omega (arith, l.few, absent_past rs (c - 1) e))
       go (present r e) =
           rw (back_is (c - 1) r e q) (
             omega (arith, k.few, long),
@@ -89,9 +89,9 @@ module _ {rs : List Slot} {P : ℕ → ℕ} {w t : List ℕ} (m : SlotsIn rs P w
               few = omega (arith, k.few, long, l.few);
               here = λ j x u v. k.here j x u (at_take rs (c - 1) j (omega (arith, k.few, long)) ∙ v);
               hand = l.hand
-                  ∙ ap (λ (o : Option ℕ). or_else o (bestOf best)) (ap (handIn s i) front ∙ hand-snoc s i (take (c - 1) rs) r)
-                  ∙ orElse-assoc (handIn s i (take (c - 1) rs)) _ (bestOf best)
-                  ∙ ap₂ or_else (k.hand s ∙ ap (handIn s i) (take-take (last_of i (take (c - 1) rs)) (c - 1) rs (omega (arith, k.few, long)))) (found-is (c - 1) best x r e q f);
+                  ∙ ap (λ (o : Option ℕ). or_else o (best_of best)) (ap (hand_in s i) front ∙ hand_snoc s i (take (c - 1) rs) r)
+                  ∙ or_else_assoc (hand_in s i (take (c - 1) rs)) _ (best_of best)
+                  ∙ ap₂ or_else (k.hand s ∙ ap (hand_in s i) (take-take (last_of i (take (c - 1) rs)) (c - 1) rs (omega (arith, k.few, long)))) (found-is (c - 1) best x r e q f);
             },
           )
         where
@@ -99,7 +99,7 @@ module _ {rs : List Slot} {P : ℕ → ℕ} {w t : List ℕ} (m : SlotsIn rs P w
           q = l.here (c - 1) r (omega arith) e
 
           k : Last i (take (c - 1) rs) (last_of i (take (c - 1) rs))
-          k = last-is i (take (c - 1) rs)
+          k = last_is i (take (c - 1) rs)
 
           long : length (take (c - 1) rs) ≡ c - 1
           long = length-take-le (c - 1) rs (omega (arith, l.few))
@@ -110,4 +110,4 @@ module _ {rs : List Slot} {P : ℕ → ℕ} {w t : List ℕ} (m : SlotsIn rs P w
 -- the same for any slots that the lists hold
 pub led_on : {w t : List ℕ} {s i c best x : ℕ} → 0 < c → Seen w t s (c - 1) best x → ((g : Slotted w t) → Led g.slots s i c best)
     → (g : Slotted w t) → (get_or t (12544 + (c - 1)) 0 < c) × Led g.slots s i (get_or t (12544 + (c - 1)) 0) x
-led_on {s = s} {i} {c} {best} {x} p f l g = led-next g.are s i c best x p (l g) f
+led_on {s = s} {i} {c} {best} {x} p f l g = led_next g.are s i c best x p (l g) f

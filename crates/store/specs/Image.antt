@@ -3,12 +3,12 @@ use Rattle.std.specs.Prelude.{ℕ, zero, suc, ◌+◌, ◌<◌, ◌≤◌, ◌�
 use Rattle.std.proofs.Math.Option.{Option, none, some}
 use Rattle.std.proofs.Math.ListN.{get_elem?}
 use Rattle.lexical.specs.State.{Binding, Slot, Copy, Event, Named, St}
-use Rattle.lexical.specs.Block.{freshIn}
+use Rattle.lexical.specs.Block.{fresh_in}
 use Rattle.lexical.specs.Records as rec
 use Rattle.lexical.specs.Code.Adds.{AllBelow}
 use Rattle.store.specs.declared.ids.State.{State}
-use Rattle.store.specs.Sections.{Mem, Point, word_at, or_zero, slotsAt, copiesAt, errorsAt, scopesAt, ownerAt, tail_at, backAt, num_at}
-use Rattle.store.specs.Words.{rowNode, rowWord, bindWord, slotWord, errorWord, copyWord, pairWord}
+use Rattle.store.specs.Sections.{Mem, Point, word_at, or_zero, slots_at, copies_at, errors_at, scopes_at, owner_at, tail_at, back_at, num_at}
+use Rattle.store.specs.Words.{row_node, row_word, bind_word, slot_word, error_word, copy_word, pair_word}
 
 -- ---- bindings
 
@@ -19,24 +19,24 @@ pub record Sound (i : ℕ) (b : Binding) : Type 0 where
   pub source : b.var.source < 65536
   pub owner : b.owner < 256
   pub slot : b.slot < 32768
-  pub local-slot : b.local ≡ true → b.slot < 4096
+  pub local_slot : b.local ≡ true → b.slot < 4096
 
 -- cap: which bindings count as captured
 pub record MadeIn (bs : List Binding) (cap : ℕ → Bool) (binds t : List ℕ) : Type 0 where
-  pub words : Point binds 0 2304 (word_at (bindWord cap) bs)
-  pub owners : Point t ownerAt 2304 (word_at (λ (b : Binding). b.owner) bs)
+  pub words : Point binds 0 2304 (word_at (bind_word cap) bs)
+  pub owners : Point t owner_at 2304 (word_at (λ (b : Binding). b.owner) bs)
   pub few : length bs ≤ 2304
   pub sound : (i : ℕ) (b : Binding) → get_elem? bs i ≡ some b → Sound i b
 
 -- ---- slots
 
 -- one more than the place of the last slot that holds binding i; 0 if there is none
-unfoldable pub lastFrom : ℕ → ℕ → ℕ → List Slot → ℕ
-lastFrom i k last [] = last
-lastFrom i k last (r ∷ rs) = lastFrom i (suc k) (cond (eqb r.id i) (suc k) last) rs
+unfoldable pub last_from : ℕ → ℕ → ℕ → List Slot → ℕ
+last_from i k last [] = last
+last_from i k last (r ∷ rs) = last_from i (suc k) (cond (eqb r.id i) (suc k) last) rs
 
 abbrev pub last_of : ℕ → List Slot → ℕ
-last_of i rs = lastFrom i 0 0 rs
+last_of i rs = last_from i 0 0 rs
 
 -- the same among the slots before place k, for the binding that slot k holds
 unfoldable pub before : List Slot → ℕ → ℕ
@@ -44,10 +44,10 @@ before rs k = or_zero (λ (r : Slot). last_of r.id (take k rs)) (get_elem? rs k)
 
 -- P: each scope's parameter variables
 pub record SlotsIn (rs : List Slot) (P : ℕ → ℕ) (w t : List ℕ) : Type 0 where
-  pub rows : Point w slotsAt 4096 (word_at slotWord rs)
-  pub scopes : Point w scopesAt 256 (λ s. pairWord (P s) (freshIn s rs))
+  pub rows : Point w slots_at 4096 (word_at slot_word rs)
+  pub scopes : Point w scopes_at 256 (λ s. pair_word (P s) (fresh_in s rs))
   pub nums : Point t num_at 4096 (word_at (λ (r : Slot). r.num) rs)
-  pub back : Point t backAt 4096 (before rs)
+  pub back : Point t back_at 4096 (before rs)
   pub tail : Point t tail_at 2304 (λ i. last_of i rs)
   pub few : length rs ≤ 4096
   pub params : (s : ℕ) → s < 256 → P s < 65536
@@ -56,24 +56,24 @@ pub record SlotsIn (rs : List Slot) (P : ℕ → ℕ) (w t : List ℕ) : Type 0 
 -- ---- copies and errors
 
 pub record CopiesIn (cs : List Copy) (w : List ℕ) : Type 0 where
-  pub rows : Point w copiesAt 4096 (word_at copyWord cs)
+  pub rows : Point w copies_at 4096 (word_at copy_word cs)
   pub few : length cs ≤ 4096
 
 pub record ErrorsIn (es : List (List ℕ)) (w : List ℕ) : Type 0 where
-  pub rows : Point w errorsAt 2048 (word_at errorWord es)
+  pub rows : Point w errors_at 2048 (word_at error_word es)
   pub few : length es ≤ 2048
 
 -- ---- nodes
 
 -- the rows for nodes: of Names and of Idents; M: the module's bindings
 pub data RowOf (M : List Binding) (named : List Named) (log : List Event) (row : List ℕ) : Type 0 where
-  name-row : (j : ℕ) (x : Named) → get_elem? named j ≡ some x → row ≡ rec.nameRow x.node x.of → RowOf M named log row
-  ident-row : (j : ℕ) → get_elem? (rec.answers M log) j ≡ some row → RowOf M named log row
+  name_row_lem : (j : ℕ) (x : Named) → get_elem? named j ≡ some x → row ≡ rec.name_row x.node x.of → RowOf M named log row
+  ident_row : (j : ℕ) → get_elem? (rec.answers M log) j ≡ some row → RowOf M named log row
 
 -- what node i's place holds: a row for it, or 0 where there is none
 pub data HeldAt (R : List ℕ → Type 0) (i x : ℕ) : Type 0 where
-  held : (row : List ℕ) → R row → rowNode row ≡ i → x ≡ rowWord row → HeldAt R i x
-  none-held : ((row : List ℕ) → R row → rowNode row ≡ i → ⊥) → x ≡ 0 → HeldAt R i x
+  held : (row : List ℕ) → R row → row_node row ≡ i → x ≡ row_word row → HeldAt R i x
+  none-held : ((row : List ℕ) → R row → row_node row ≡ i → ⊥) → x ≡ 0 → HeldAt R i x
 
 abbrev pub NodesIn : List Binding → List Named → List Event → List ℕ → Type 0
 NodesIn M named log w = (i : ℕ) → i < 2048 → HeldAt (RowOf M named log) i (get_or w i 0)
@@ -86,9 +86,9 @@ pub record Image (M : List Binding) (P : ℕ → ℕ) (cap : ℕ → Bool) (st :
   pub copies : CopiesIn st.copies m.w
   pub errors : ErrorsIn (rec.errors st.log) m.w
   pub nodes : NodesIn M st.named st.log m.w
-  pub bindings-are : s.bindings ≡ length st.made
-  pub slots-are : s.slots ≡ length st.slots
-  pub copies-are : s.copies ≡ length st.copies
-  pub errors-are : s.errors ≡ length (rec.errors st.log)
-  pub copies-fit : length st.copies ≤ length st.slots
-  pub log-below : AllBelow (length st.made) st.log
+  pub bindings_are : s.bindings ≡ length st.made
+  pub slots_are : s.slots ≡ length st.slots
+  pub copies_are : s.copies ≡ length st.copies
+  pub errors_are : s.errors ≡ length (rec.errors st.log)
+  pub copies_fit : length st.copies ≤ length st.slots
+  pub log_below : AllBelow (length st.made) st.log

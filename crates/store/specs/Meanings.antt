@@ -4,12 +4,12 @@ use Rattle.std.specs.Prelude.{ℕ, ◌+◌, ◌<◌, ◌≤◌, ◌≡◌, Bool,
 use Rattle.std.proofs.Math.Option.{Option, none, some}
 use Rattle.std.proofs.Math.ListN.{get_elem?}
 use Rattle.lexical.specs.Lists.{first, place, map_o}
-use Rattle.lexical.specs.Binders.{loadShown}
+use Rattle.lexical.specs.Binders.{load_shown}
 use Rattle.lexical.specs.Module.{File}
 use Rattle.lexical.specs.State.{Binding}
 use Rattle.lexical.specs.Block.{called}
 use Rattle.lexical.specs.Records.{bit}
-use Rattle.store.specs.Sections.{Point, plus, curAt, modAt, globAt, hiddenAt, saved_at, first_at, last_at, stackAt, shownAt}
+use Rattle.store.specs.Sections.{Point, plus, cur_at, mod_at, glob_at, hidden_at, saved_at, first_at, last_at, stack_at, shown_at}
 
 -- the number (+ 1) of the innermost of these that has a name
 unfoldable pub number_of : List Binding → ℕ → ℕ
@@ -28,21 +28,21 @@ SavedAll (b ∷ env) made t = SavedOne b env made t × SavedAll env made t
 -- the scopes around, innermost first: the level of each is the number of those outside it
 unfoldable pub Stacked : List ℕ → List ℕ → Type 0
 Stacked [] t = Unit {0}
-Stacked (s ∷ ss) t = (get_or t (stackAt + length ss) 0 ≡ s) × (s < 256) × Stacked ss t
+Stacked (s ∷ ss) t = (get_or t (stack_at + length ss) 0 ≡ s) × (s < 256) × Stacked ss t
 
 pub record EnvIn (env : List Binding) (ss : List ℕ) (made : List Binding) (level : ℕ) (t : List ℕ) : Type 0 where
-  pub cur : Point t curAt 1024 (number_of env)
+  pub cur : Point t cur_at 1024 (number_of env)
   pub saved : SavedAll env made t
   pub stack : Stacked ss t
-  pub level-is : level + 1 ≡ length ss
+  pub level_is : level + 1 ≡ length ss
   pub low : length ss ≤ 127
 
 -- mods: the module's names, by number
 pub record NamesIn (F : File) (mods : List ℕ) (t : List ℕ) : Type 0 where
-  pub in-module : Point t modAt 1024 (λ n. plus (place n mods))
-  pub in-globals : Point t globAt 1024 (λ n. plus (place n F.globals))
-  pub hidden : Point t hiddenAt 1024 (λ n. bit (F.names.hidden n))
-  pub shown : get_or t shownAt 0 ≡ bit (loadShown F.names)
+  pub in_module : Point t mod_at 1024 (λ n. plus (place n mods))
+  pub in_globals : Point t glob_at 1024 (λ n. plus (place n F.globals))
+  pub hidden : Point t hidden_at 1024 (λ n. bit (F.names.hidden n))
+  pub shown : get_or t shown_at 0 ≡ bit (load_shown F.names)
 
 -- bs are the bindings from lo up to hi
 pub record Range (made bs : List Binding) (lo hi : ℕ) : Type 0 where

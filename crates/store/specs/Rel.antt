@@ -33,9 +33,9 @@ caps st i = rec.captured i st.log
 
 -- more than a list holds
 pub data Over (st : St) : Type 0 where
-  many-slots : 4096 < length st.slots → Over st
-  many-bindings : 2304 < length st.made → Over st
-  many-errors : 2048 < length (rec.errors st.log) → Over st
+  too_many_slots : 4096 < length st.slots → Over st
+  too_many_bindings : 2304 < length st.made → Over st
+  too_many_errors : 2048 < length (rec.errors st.log) → Over st
 
 -- `full` only if a list is; else the working lists are the state's
 pub record RC (W : World) (env : List Binding) (ss : List ℕ) (cap : ℕ → Bool) (st : St) (s : State) (m : Mem) : Type 0 where

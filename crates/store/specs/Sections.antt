@@ -14,65 +14,65 @@ abbrev pub mem : List ℕ → List ℕ → List ℕ → Mem
 mem binds w t = record { binds = binds; w = w; t = t }
 
 -- how many of each there can be, and how far a half of a record's word and a slot's number reach
-abbrev pub manyNodes : ℕ
-manyNodes = 2048
+abbrev pub many_nodes : ℕ
+many_nodes = 2048
 
-abbrev pub manyNames : ℕ
-manyNames = 1024
+abbrev pub many_names : ℕ
+many_names = 1024
 
-abbrev pub manyBindings : ℕ
-manyBindings = 2304
+abbrev pub many_bindings : ℕ
+many_bindings = 2304
 
-abbrev pub manySlots : ℕ
-manySlots = 4096
+abbrev pub many_slots : ℕ
+many_slots = 4096
 
-abbrev pub manySlotNumbers : ℕ
-manySlotNumbers = 32768
+abbrev pub many_slot_numbers : ℕ
+many_slot_numbers = 32768
 
-abbrev pub halfWord : ℕ
-halfWord = 65536
+abbrev pub half_word : ℕ
+half_word = 65536
 
 -- how long the lists are
-abbrev pub wLength : ℕ
-wLength = 12544
+abbrev pub w_length : ℕ
+w_length = 12544
 
-abbrev pub tLength : ℕ
-tLength = 20864
+abbrev pub t_length : ℕ
+t_length = 20864
 
 pub record Long (m : Mem) : Type 0 where
-  pub binds : manyBindings ≤ length m.binds
-  pub w : length m.w ≡ wLength
-  pub t : length m.t ≡ tLength
+  pub binds : many_bindings ≤ length m.binds
+  pub w : length m.w ≡ w_length
+  pub t : length m.t ≡ t_length
 
 -- sections of w: the nodes' answers, the slots, the copies and the errors in order of making, and the scopes
-abbrev pub nodesAt : ℕ
-nodesAt = 0
+abbrev pub nodes_at : ℕ
+nodes_at = 0
 
-abbrev pub slotsAt : ℕ
-slotsAt = 2048
+abbrev pub slots_at : ℕ
+slots_at = 2048
 
-abbrev pub copiesAt : ℕ
-copiesAt = 6144
+abbrev pub copies_at : ℕ
+copies_at = 6144
 
-abbrev pub errorsAt : ℕ
-errorsAt = 10240
+abbrev pub errors_at : ℕ
+errors_at = 10240
 
-abbrev pub scopesAt : ℕ
-scopesAt = 12288
+abbrev pub scopes_at : ℕ
+scopes_at = 12288
 
 -- sections of t by name: the innermost local (binding + 1), the module's binding (+ 1), the global (+ 1), whether it begins with `_`,
 -- the binding (+ 1) that the block which is being collected has for it
-abbrev pub curAt : ℕ
-curAt = 0
+abbrev pub cur_at : ℕ
+cur_at = 0
 
-abbrev pub modAt : ℕ
-modAt = 1024
+abbrev pub mod_at : ℕ
+mod_at = 1024
 
-abbrev pub globAt : ℕ
-globAt = 2048
+abbrev pub glob_at : ℕ
+glob_at = 2048
 
-abbrev pub hiddenAt : ℕ
-hiddenAt = 3072
+abbrev pub hidden_at : ℕ
+hidden_at = 3072
 
 abbrev pub block_at : ℕ
 block_at = 4096
@@ -81,8 +81,8 @@ block_at = 4096
 abbrev pub saved_at : ℕ
 saved_at = 5120
 
-abbrev pub ownerAt : ℕ
-ownerAt = 7424
+abbrev pub owner_at : ℕ
+owner_at = 7424
 
 abbrev pub tail_at : ℕ
 tail_at = 9728
@@ -95,19 +95,19 @@ abbrev pub last_at : ℕ
 last_at = 12288
 
 -- by slot record: the slot record before it of the same binding (+ 1), and the slot's number in its scope
-abbrev pub backAt : ℕ
-backAt = 12544
+abbrev pub back_at : ℕ
+back_at = 12544
 
 abbrev pub num_at : ℕ
 num_at = 16640
 
 -- by level: the scope
-abbrev pub stackAt : ℕ
-stackAt = 20736
+abbrev pub stack_at : ℕ
+stack_at = 20736
 
 -- whether a name bound by Load is shown
-abbrev pub shownAt : ℕ
-shownAt = 20863
+abbrev pub shown_at : ℕ
+shown_at = 20863
 
 abbrev pub Point : List ℕ → ℕ → ℕ → (ℕ → ℕ) → Type 0
 Point l base n f = (i : ℕ) → i < n → get_or l (base + i) 0 ≡ f i

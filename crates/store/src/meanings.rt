@@ -1,7 +1,7 @@
 // What names mean, by name; what belongs to a binding, a scope and a level.
 ghost use Rattle.std.specs.Prelude.{◌≡◌, cond, ◌+◌, ◌/◌, ◌≤◌, ◌<◌, length, get_or, set, eqb};
 ghost use Rattle.store.specs.Scoping.{Opening, Opened, Closing, Closed};
-ghost use Rattle.store.specs.Sections.{block_at, first_at, globAt, halfWord, hiddenAt, last_at, manyBindings, manyNames, modAt, ownerAt, saved_at, shownAt, stackAt, tLength};
+ghost use Rattle.store.specs.Sections.{block_at, first_at, glob_at, half_word, hidden_at, last_at, many_bindings, many_names, mod_at, owner_at, saved_at, shown_at, stack_at, t_length};
 
 use crate::records;
 use crate::sections::{
@@ -11,82 +11,82 @@ use crate::wide::wide;
 
 // The innermost local of a name, plus one.
 pub fn current(t: &[u16], name: usize) -> usize
-    requires { (name < manyNames) × (length t.now ≡ tLength) }
-    ensures { (result ≡ get_or t.now name 0) × (result < halfWord) }
+    requires { (name < many_names) × (length t.now ≡ t_length) }
+    ensures { (result ≡ get_or t.now name 0) × (result < half_word) }
 {
     wide(t[name])
 }
 
 // The module's binding of a name, plus one.
 pub fn module_binding(t: &[u16], name: usize) -> usize
-    requires { (name < manyNames) × (length t.now ≡ tLength) }
-    ensures { (result ≡ get_or t.now (modAt + name) 0) × (result < halfWord) }
+    requires { (name < many_names) × (length t.now ≡ t_length) }
+    ensures { (result ≡ get_or t.now (mod_at + name) 0) × (result < half_word) }
 {
     wide(t[MODULE + name])
 }
 
 // The global of a name, plus one.
 pub fn global(t: &[u16], name: usize) -> usize
-    requires { (name < manyNames) × (length t.now ≡ tLength) }
-    ensures { (result ≡ get_or t.now (globAt + name) 0) × (result < halfWord) }
+    requires { (name < many_names) × (length t.now ≡ t_length) }
+    ensures { (result ≡ get_or t.now (glob_at + name) 0) × (result < half_word) }
 {
     wide(t[GLOBALS + name])
 }
 
 pub fn hidden(t: &[u16], name: usize) -> bool
-    requires { (name < manyNames) × (length t.now ≡ tLength) }
-    ensures { result ≡ eqb (get_or t.now (hiddenAt + name) 0) 1 }
+    requires { (name < many_names) × (length t.now ≡ t_length) }
+    ensures { result ≡ eqb (get_or t.now (hidden_at + name) 0) 1 }
 {
     t[HIDDEN + name] == 1
 }
 
 // Whether a name bound by Load is shown.
 pub fn load_shown(t: &[u16]) -> bool
-    requires { length t.now ≡ tLength }
-    ensures { result ≡ eqb (get_or t.now shownAt 0) 1 }
+    requires { length t.now ≡ t_length }
+    ensures { result ≡ eqb (get_or t.now shown_at 0) 1 }
 {
     t[LOADS_SHOWN] == 1
 }
 
 // Where a block that is collected has its names: the module's stay, those of the others are overwritten.
 fn base(local: bool) -> usize
-    ensures { (result ≡ cond local block_at modAt) × (result ≤ block_at) }
+    ensures { (result ≡ cond local block_at mod_at) × (result ≤ block_at) }
 {
     if local { BLOCK } else { MODULE }
 }
 
 // The binding that the block which is collected has for a name, plus one; where it has none, a number that is no larger than its first.
 pub fn known(t: &[u16], local: bool, name: usize) -> usize
-    requires { (name < manyNames) × (length t.now ≡ tLength) }
-    ensures { (result ≡ get_or t.now (cond local block_at modAt + name) 0) × (result < halfWord) }
+    requires { (name < many_names) × (length t.now ≡ t_length) }
+    ensures { (result ≡ get_or t.now (cond local block_at mod_at + name) 0) × (result < half_word) }
 {
     wide(t[base(local) + name])
 }
 
 pub fn put_known(t: &mut [u16], local: bool, name: usize, id: usize)
-    requires { (name < manyNames) × (id < manyBindings) × (length t.old ≡ tLength) }
-    ensures { t.new ≡ set t.old (cond local block_at modAt + name) (id + 1) }
+    requires { (name < many_names) × (id < many_bindings) × (length t.old ≡ t_length) }
+    ensures { t.new ≡ set t.old (cond local block_at mod_at + name) (id + 1) }
 {
     t[base(local) + name] = (id + 1) as u16;
 }
 
 pub fn put_owner(t: &mut [u16], id: usize, scope: usize)
-    requires { (id < manyBindings) × (scope < 256) × (length t.old ≡ tLength) }
-    ensures { t.new ≡ set t.old (ownerAt + id) scope }
+    requires { (id < many_bindings) × (scope < 256) × (length t.old ≡ t_length) }
+    ensures { t.new ≡ set t.old (owner_at + id) scope }
 {
     t[OWNERS + id] = scope as u16;
 }
 
 pub fn owner(t: &[u16], id: usize) -> usize
-    requires { (id < manyBindings) × (length t.now ≡ tLength) }
-    ensures { (result ≡ get_or t.now (ownerAt + id) 0) × (result < halfWord) }
+    requires { (id < many_bindings) × (length t.now ≡ t_length) }
+    ensures { (result ≡ get_or t.now (owner_at + id) 0) × (result < half_word) }
 {
     wide(t[OWNERS + id])
 }
 
 // A scope's first binding, and the one after its last.
 pub fn put_range(t: &mut [u16], scope: usize, lo: usize, hi: usize)
-    requires { (scope < 256) × (lo ≤ manyBindings) × (hi ≤ manyBindings) × (length t.old ≡ tLength) }
+    requires { (scope < 256) × (lo ≤ many_bindings) × (hi ≤ many_bindings) × (length t.old ≡ t_length) }
     ensures { t.new ≡ set (set t.old (first_at + scope) lo) (last_at + scope) hi }
 {
     t[FIRSTS + scope] = lo as u16;
@@ -94,36 +94,36 @@ pub fn put_range(t: &mut [u16], scope: usize, lo: usize, hi: usize)
 }
 
 pub fn first_of(t: &[u16], scope: usize) -> usize
-    requires { (scope < 256) × (length t.now ≡ tLength) }
-    ensures { (result ≡ get_or t.now (first_at + scope) 0) × (result < halfWord) }
+    requires { (scope < 256) × (length t.now ≡ t_length) }
+    ensures { (result ≡ get_or t.now (first_at + scope) 0) × (result < half_word) }
 {
     wide(t[FIRSTS + scope])
 }
 
 pub fn last_of(t: &[u16], scope: usize) -> usize
-    requires { (scope < 256) × (length t.now ≡ tLength) }
-    ensures { (result ≡ get_or t.now (last_at + scope) 0) × (result < halfWord) }
+    requires { (scope < 256) × (length t.now ≡ t_length) }
+    ensures { (result ≡ get_or t.now (last_at + scope) 0) × (result < half_word) }
 {
     wide(t[LASTS + scope])
 }
 
 pub fn put_scope(t: &mut [u16], level: usize, scope: usize)
-    requires { (level < 128) × (scope < 256) × (length t.old ≡ tLength) }
-    ensures { t.new ≡ set t.old (stackAt + level) scope }
+    requires { (level < 128) × (scope < 256) × (length t.old ≡ t_length) }
+    ensures { t.new ≡ set t.old (stack_at + level) scope }
 {
     t[STACK + level] = scope as u16;
 }
 
 pub fn scope_at_level(t: &[u16], level: usize) -> usize
-    requires { (level < 128) × (length t.now ≡ tLength) }
-    ensures { (result ≡ get_or t.now (stackAt + level) 0) × (result < halfWord) }
+    requires { (level < 128) × (length t.now ≡ t_length) }
+    ensures { (result ≡ get_or t.now (stack_at + level) 0) × (result < half_word) }
 {
     wide(t[STACK + level])
 }
 
 // A name means this binding from here on; what it meant is kept.
 fn push(t: &mut [u16], name: usize, id: usize)
-    requires { (name < manyNames) × (id < manyBindings) × (length t.old ≡ tLength) }
+    requires { (name < many_names) × (id < many_bindings) × (length t.old ≡ t_length) }
     ensures { t.new ≡ set (set t.old (saved_at + id) (get_or t.old name 0)) name (id + 1) }
 {
     let was = t[name];
@@ -133,7 +133,7 @@ fn push(t: &mut [u16], name: usize, id: usize)
 
 // A name means again what it did before this binding.
 fn pop(t: &mut [u16], name: usize, id: usize)
-    requires { (name < manyNames) × (id < manyBindings) × (length t.old ≡ tLength) }
+    requires { (name < many_names) × (id < many_bindings) × (length t.old ≡ t_length) }
     ensures { t.new ≡ set t.old name (get_or t.old (saved_at + id) 0) }
 {
     t[name] = t[SAVED + id];
@@ -141,7 +141,7 @@ fn pop(t: &mut [u16], name: usize, id: usize)
 
 // The names of bindings lo to hi mean these from here on: the last is pushed first, so that the first is innermost.
 pub fn scope_in(binds: &[u64], t: &mut [u16], lo: usize, hi: usize)
-    requires { (manyBindings ≤ length binds.now) × (length t.old ≡ tLength) × Opening binds.now t.old lo hi }
+    requires { (many_bindings ≤ length binds.now) × (length t.old ≡ t_length) × Opening binds.now t.old lo hi }
     ensures { Opened binds.now t.old lo hi t.new }
 {
     let mut k = hi;
@@ -153,7 +153,7 @@ pub fn scope_in(binds: &[u64], t: &mut [u16], lo: usize, hi: usize)
 
 // The names of bindings lo to hi mean again what they did before: the innermost goes first.
 pub fn unscope(binds: &[u64], t: &mut [u16], lo: usize, hi: usize)
-    requires { (manyBindings ≤ length binds.now) × (length t.old ≡ tLength) × Closing binds.now t.old lo hi }
+    requires { (many_bindings ≤ length binds.now) × (length t.old ≡ t_length) × Closing binds.now t.old lo hi }
     ensures { Closed binds.now t.old lo hi t.new }
 {
     let mut k = lo;

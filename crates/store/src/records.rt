@@ -1,9 +1,9 @@
 // The bindings' records, the nodes' answers and the errors.
 ghost use Rattle.std.specs.Prelude.{◌≡◌, ◌+◌, ◌≤◌, ◌<◌, length, get_or, set};
 ghost use Rattle.lexical.specs.Records.{bit};
-ghost use Rattle.answer.specs.Records.{bindingName, bindingSlot};
-ghost use Rattle.store.specs.Words.{bindingWord, capturedWord, againWord, answerWord, pairWord};
-ghost use Rattle.store.specs.Sections.{errorsAt, halfWord, manyNodes, manySlotNumbers, wLength};
+ghost use Rattle.answer.specs.Records.{binding_name, binding_slot};
+ghost use Rattle.store.specs.Words.{binding_word, captured_word, again_word, answer_word, pair_word};
+ghost use Rattle.store.specs.Sections.{errors_at, half_word, many_nodes, many_slot_numbers, w_length};
 
 use crate::sections::ERRORS;
 
@@ -25,8 +25,8 @@ pub fn put_binding(
     local: bool,
     slot: usize,
 )
-    requires { (id < length binds.old) × (name < halfWord) × (source < halfWord) × (slot < manySlotNumbers) }
-    ensures { binds.new ≡ set binds.old id (bindingWord name source (bit from_module) (bit public) (bit any) 0 (bit local) slot) }
+    requires { (id < length binds.old) × (name < half_word) × (source < half_word) × (slot < many_slot_numbers) }
+    ensures { binds.new ≡ set binds.old id (binding_word name source (bit from_module) (bit public) (bit any) 0 (bit local) slot) }
 {
     binds[id] = answer::binding::make(
         name as u64,
@@ -42,14 +42,14 @@ pub fn put_binding(
 
 pub fn name_of(binds: &[u64], id: usize) -> usize
     requires { id < length binds.now }
-    ensures { (result ≡ bindingName (get_or binds.now id 0)) × (result < halfWord) }
+    ensures { (result ≡ binding_name (get_or binds.now id 0)) × (result < half_word) }
 {
     answer::binding::name(binds[id]) as usize
 }
 
 pub fn slot_of(binds: &[u64], id: usize) -> usize
     requires { id < length binds.now }
-    ensures { (result ≡ bindingSlot (get_or binds.now id 0)) × (result < manySlotNumbers) }
+    ensures { (result ≡ binding_slot (get_or binds.now id 0)) × (result < many_slot_numbers) }
 {
     answer::binding::slot(binds[id]) as usize
 }
@@ -57,14 +57,14 @@ pub fn slot_of(binds: &[u64], id: usize) -> usize
 // The flag captured.
 pub fn set_captured(binds: &mut [u64], id: usize)
     requires { id < length binds.old }
-    ensures { binds.new ≡ set binds.old id (capturedWord (get_or binds.old id 0)) }
+    ensures { binds.new ≡ set binds.old id (captured_word (get_or binds.old id 0)) }
 {
     let r = binds[id];
     binds[id] = answer::binding::with_captured(r, 1);
 }
 
 fn again(r: u64, public: bool) -> u64
-    ensures { result ≡ againWord public r }
+    ensures { result ≡ again_word public r }
 {
     let any = answer::binding::with_any(r, 1);
     if public {
@@ -76,7 +76,7 @@ fn again(r: u64, public: bool) -> u64
 // A name that is bound again: any, and Public if this target is.
 pub fn bind_again(binds: &mut [u64], id: usize, public: bool)
     requires { id < length binds.old }
-    ensures { binds.new ≡ set binds.old id (againWord public (get_or binds.old id 0)) }
+    ensures { binds.new ≡ set binds.old id (again_word public (get_or binds.old id 0)) }
 {
     let r = binds[id];
     binds[id] = again(r, public);
@@ -84,16 +84,16 @@ pub fn bind_again(binds: &mut [u64], id: usize, public: bool)
 
 // A node's answer.
 pub fn put_answer(w: &mut [u32], at: usize, class: usize, slot: usize, id: usize)
-    requires { (at < manyNodes) × (class < 4) × (slot < manySlotNumbers) × (id < manySlotNumbers) × (length w.old ≡ wLength) }
-    ensures { w.new ≡ set w.old at (answerWord class slot id) }
+    requires { (at < many_nodes) × (class < 4) × (slot < many_slot_numbers) × (id < many_slot_numbers) × (length w.old ≡ w_length) }
+    ensures { w.new ≡ set w.old at (answer_word class slot id) }
 {
     w[at] = answer::node::make(class as u64, slot as u64, id as u64);
 }
 
 // Error number e.
 pub fn put_error(w: &mut [u32], e: usize, at: usize, code: usize)
-    requires { (e < manyNodes) × (at < manyNodes) × (code < 3) × (length w.old ≡ wLength) }
-    ensures { w.new ≡ set w.old (errorsAt + e) (pairWord at code) }
+    requires { (e < many_nodes) × (at < many_nodes) × (code < 3) × (length w.old ≡ w_length) }
+    ensures { w.new ≡ set w.old (errors_at + e) (pair_word at code) }
 {
     w[ERRORS + e] = answer::error::make(at as u64, code as u64);
 }

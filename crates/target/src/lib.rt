@@ -1,6 +1,6 @@
 // One target of a block that is collected: a name that the block has already, or a new one.
 ghost use Rattle.std.specs.Prelude.{◌≡◌, true, false, cond, not, ◌&&◌, ◌||◌, ◌+◌, ◌≤◌, ◌<◌, length, get_or, eqb};
-ghost use Rattle.store.specs.Sections.{mem, Long, hiddenAt, manyBindings, manyNames, shownAt, tLength, wLength};
+ghost use Rattle.store.specs.Sections.{mem, Long, hidden_at, many_bindings, many_names, shown_at, t_length, w_length};
 ghost use Rattle.target.specs.Target.{Again, AgainDone, Fresh, FreshDone, PreTarget, DoneTarget};
 
 use answer::ScopeId;
@@ -8,8 +8,8 @@ use store::{Block, Marks, State};
 
 // Whether a target makes its name Public.
 fn visibility(t: &[u16], name: usize, marks: Marks) -> bool
-    requires { (name < manyNames) × (length t.now ≡ tLength) }
-    ensures { result ≡ marks.param || (not (eqb (get_or t.now (hiddenAt + name) 0) 1) && (not marks.load || eqb (get_or t.now shownAt 0) 1)) }
+    requires { (name < many_names) × (length t.now ≡ t_length) }
+    ensures { result ≡ marks.param || (not (eqb (get_or t.now (hidden_at + name) 0) 1) && (not marks.load || eqb (get_or t.now shown_at 0) 1)) }
 {
     if marks.param {
         return true;
@@ -53,7 +53,7 @@ fn bind_again(
     binds: &mut [u64],
     w: &mut [u32],
 ) -> State
-    requires { (manyBindings ≤ length binds.old) × (length w.old ≡ wLength) × Again id at local st binds.old w.old }
+    requires { (many_bindings ≤ length binds.old) × (length w.old ≡ w_length) × Again id at local st binds.old w.old }
     ensures { (result ≡ st) × AgainDone id at local public st binds.old w.old binds.new w.new }
 {
     store::bind_again(binds, id, public);

@@ -15,8 +15,8 @@ pub record Cleared (a i : ℕ) (old new : List ℕ) : Type 0 where
   pub kept : (j : ℕ) → j < a → get_or new j 0 ≡ get_or old j 0
   pub zeros : (j : ℕ) → a ≤ j → j < i → get_or new j 0 ≡ 0
 
-pub cleared-none : (a : ℕ) (old : List ℕ) → Cleared a a old old
-cleared-none a old = record { long = refl; kept = λ j h. refl; zeros = λ j h l. absurd (omega arith) }
+pub cleared_none : (a : ℕ) (old : List ℕ) → Cleared a a old old
+cleared_none a old = record { long = refl; kept = λ j h. refl; zeros = λ j h l. absurd (omega arith) }
 
 pub cleared_more : {a i : ℕ} {old new : List ℕ} → Cleared a i old new → a ≤ i → i < length new → Cleared a (i + 1) old (set new i 0)
 cleared_more {a} {i} {old} {new} m h l = record {

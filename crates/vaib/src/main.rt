@@ -9,7 +9,7 @@ mod word;
 use libc::{STDERR_FILENO, STDIN_FILENO, STDOUT_FILENO};
 use word::{Asked, Word};
 
-// What a word makes of the file. One longer than any that is accepted has the answer of its first 65,536 bytes (`judged-front`, crate judge).
+// What a word makes of the file. One longer than any that is accepted has the answer of its first 65,536 bytes (`judged_front`, crate judge).
 fn run(w: Word) {
     let mut space = io::large_buffer();
     let n = io::read_full(STDIN_FILENO, &mut space);

@@ -3,9 +3,9 @@ use Rattle.std.specs.Prelude.{ℕ, ◌+◌, ◌≤◌, ◌<◌, ◌≡◌, List,
 use Rattle.std.proofs.Common.{sym, ap, ap₂, ◌∙◌, arith}
 use Rattle.std.proofs.Math.Decide.{ℕ_discrete}
 use Rattle.base.specs.Parts.{part_length}
-use Rattle.nodefile.specs.Layout.{poolAt, names_of}
-use Rattle.nodefile.specs.Lists.{nameOff}
-use Rattle.judge.specs.Spelling.{Spelling, spelling-one}
+use Rattle.nodefile.specs.Layout.{pool_at, names_of}
+use Rattle.nodefile.specs.Lists.{name_off}
+use Rattle.judge.specs.Spelling.{Spelling, spelling_one}
 use Rattle.follow.specs.declared.Place.{Place}
 use Rattle.vaibmusan.specs.declared.Stretch.{Stretch}
 use Rattle.vaibmusan.specs.declared.Home.{Home}
@@ -14,7 +14,7 @@ use Rattle.vaibmusan.specs.declared.Home.{Home}
 pub record Stands (bs : List ℕ) (k : ℕ) (s : Stretch) : Type 0 where
   pub inside : s.offset + s.length ≤ length bs
   pub spelling : Spelling bs k (take s.length (drop s.offset bs))
-  pub start : 0 < s.length → s.offset ≡ poolAt bs + nameOff (names_of bs) k
+  pub start : 0 < s.length → s.offset ≡ pool_at bs + name_off (names_of bs) k
   pub nowhere : s.length ≡ 0 → s.offset ≡ 0
 
 abbrev pub stretch : ℕ → ℕ → Stretch
@@ -23,7 +23,7 @@ stretch o l = record { offset = o; length = l }
 -- no second stretch fits
 pub stands_one : {bs : List ℕ} {k : ℕ} {s t : Stretch} → Stands bs k s → Stands bs k t → s ≡ t
 stands_one {bs} {k} {s} {t} a b =
-    let long : s.length ≡ t.length = sym (part_length bs s.offset s.length a.inside) ∙ ap length (spelling-one a.spelling b.spelling) ∙ part_length bs t.offset t.length b.inside in
+    let long : s.length ≡ t.length = sym (part_length bs s.offset s.length a.inside) ∙ ap length (spelling_one a.spelling b.spelling) ∙ part_length bs t.offset t.length b.inside in
     ap₂ stretch (elim (ℕ_discrete s.length 0) [ yes e ↦ a.nowhere e ∙ sym (b.nowhere (sym long ∙ e)) | no n ↦ a.start (omega arith) ∙ sym (b.start (omega (arith, long))) ]) long
 
 -- a place as two numbers

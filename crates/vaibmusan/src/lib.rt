@@ -6,8 +6,8 @@ ghost use Rattle.answer.specs.Buffers.{buffers};
 ghost use Rattle.scope.specs.Answer.{Resolves};
 ghost use Rattle.readers.specs.Lists.{lists};
 ghost use Rattle.readers.specs.Readers.{Readers};
-ghost use Rattle.around.specs.Scopes.{scopesAt, Holds};
-ghost use Rattle.around.specs.Outer.{outerTable};
+ghost use Rattle.around.specs.Scopes.{scopes_at, Holds};
+ghost use Rattle.around.specs.Outer.{outer_table};
 ghost use Rattle.follow.specs.Place.{followed};
 ghost use Rattle.listing.specs.Text.{Listed};
 ghost use Rattle.vaibmusan.specs.Border.{Stands, home_of};
@@ -133,7 +133,7 @@ pub extern "C" fn vaib_readers(
 // The scopes around a node, outermost first, then zeros; the result is how many they are.
 #[unsafe(no_mangle)]
 pub extern "C" fn vaib_scopes_around(file: &[u8], node: usize, around: &mut [u32]) -> usize
-    ensures { Holds (scopesAt file.now node) result around.old around.new }
+    ensures { Holds (scopes_at file.now node) result around.old around.new }
 {
     around::scopes(file, node, around)
 }
@@ -141,7 +141,7 @@ pub extern "C" fn vaib_scopes_around(file: &[u8], node: usize, around: &mut [u32
 // For each scope, at its number, the scope directly around it; zeros elsewhere.
 #[unsafe(no_mangle)]
 pub extern "C" fn vaib_outer_scopes(file: &[u8], outer: &mut [u32])
-    ensures { outer.new ≡ outerTable file.now (length outer.old) }
+    ensures { outer.new ≡ outer_table file.now (length outer.old) }
 {
     around::outer(file, outer);
 }

@@ -2,7 +2,7 @@
 use mathlib.Core.Path.{sym, ◌∙◌}
 use native.Mathlib.Omega.{arith}
 use borrow.Author.Rules.{rules}
-use Rattle.base.specs.Parts.{cut, part-from, part-past, part-rest}
+use Rattle.base.specs.Parts.{cut, part-from, part_past, part_rest}
 use Rattle.base.proofs.part.Statement.{statement}
 use Rattle.base.proofs.part.Tie as tie
 
@@ -10,7 +10,7 @@ slice-aggregate-result : tie.Need-slice-aggregate-result
 slice-aggregate-result c = search rules
 
 returns : tie.Need-returns
-returns c = let a = c.before.before.args in sym (part-past a.s.now a.at a.len (omega arith))
+returns c = let a = c.before.before.args in sym (part_past a.s.now a.at a.len (omega arith))
 
 sub-if2 : tie.Need-overflow-sub-if2
 sub-if2 c = search rules
@@ -42,10 +42,10 @@ part-result-end-2 c = search rules
 returns-3 : tie.Need-returns-3
 returns-3 c =
     let a = c.before.before.before.args in
-    part-from a.s.now a.at ∙ sym (part-rest a.s.now a.at a.len (omega arith))
+    part-from a.s.now a.at ∙ sym (part_rest a.s.now a.at a.len (omega arith))
 
-pub part-spec : {M : Type 1} → statement M
-part-spec =
+pub part_spec : {M : Type 1} → statement M
+part_spec =
     tie.close
     (tie.spec
     slice-aggregate-result

@@ -21,5 +21,5 @@ returns : tie.Need-returns
 unfolding bit_of
 returns c = rw c.wide.ensures
 
-pub bit-spec : {M : Type 1} → statement M
-bit-spec = tie.close (tie.spec shared-slice-read-wide wide-requires sub-result shr-result returns)
+pub bit_spec : {M : Type 1} → statement M
+bit_spec = tie.close (tie.spec shared-slice-read-wide wide-requires sub-result shr-result returns)

@@ -8,7 +8,7 @@ use borrow.Author.Rules.{rules}
 use lib.ListN.{length, drop}
 use Rattle.base.specs.Parts.{part-from}
 use Rattle.bits.specs.Field.{field_of}
-use Rattle.bits.specs.FieldLaws.{field_is, field-wide, field-lt-32, field-split, field_past, field-drop}
+use Rattle.bits.specs.FieldLaws.{field_is, field_wide, field_lt_32, field-split, field_past, field-drop}
 use Rattle.bits.proofs.field.Statement.{statement}
 use Rattle.bits.proofs.field.Tie as tie
 
@@ -28,7 +28,7 @@ cut_off s at n w h e =
     ∙ add-zero (field_of s at n * 2 ^ (w - n))
 
 returns : tie.Need-returns
-returns c = field-wide _ _ _ (omega arith)
+returns c = field_wide _ _ _ (omega arith)
 
 reach-requires : tie.Need-reach-requires
 reach-requires c κs = search rules
@@ -93,10 +93,10 @@ returns-4 c =
     let e = c.read2.ensures ∙ ap (λ (t : List ℕ). field_of t (a.at % 8) n) p ∙ from_first s a.at n in
     let z = cut_off s a.at n a.width (omega arith) (omega arith) in
     field_is s a.at a.width _ (omega arith)
-    (rw (e, ← z) (mod-eq_of_lt (omega (arith, field-lt-32 s a.at a.width (omega arith)))))
+    (rw (e, ← z) (mod-eq_of_lt (omega (arith, field_lt_32 s a.at a.width (omega arith)))))
 
-pub field-spec : {M : Type 1} → statement M
-field-spec =
+pub field_spec : {M : Type 1} → statement M
+field_spec =
     tie.close
     (tie.spec
     returns

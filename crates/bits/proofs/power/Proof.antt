@@ -17,5 +17,5 @@ returns c =
     ap (λ (x : ℕ). x % 18446744073709551616) (one-mul (2 ^ c.args.k))
     ∙ mod-eq_of_lt (lt_of_le_of_lt (pow_mono {j = 32} (omega arith)) (lit< tt))
 
-pub power-spec : {M : Type 1} → statement M
-power-spec = tie.close (tie.spec shl-result returns)
+pub power_spec : {M : Type 1} → statement M
+power_spec = tie.close (tie.spec shl-result returns)

@@ -5,7 +5,7 @@ use native.Mathlib.Omega.{arith}
 use native.Mathlib.Nat.{add-zero, sub-zero, div-one}
 use lib.Pow.{pow_pos, shr-shr}
 use Rattle.bits.specs.Put.{Written}
-use Rattle.bits.specs.PutLaws.{written_none, written-turn}
+use Rattle.bits.specs.PutLaws.{written_none, written_turn}
 use Rattle.bits.proofs.put_field.Statement.{statement}
 use Rattle.bits.proofs.put_field.Tie as tie
 
@@ -94,7 +94,7 @@ loop-again c =
       omega arith,
       rw (c.power.ensures, l.invariant.1) (shr-shr a.value (a.width - l.w) n ∙ ap (λ (y : ℕ). a.value / 2 ^ y) e),
       rw c.before.spliced.ensures
-          (written-turn a.at a.width l.w n (a.at / 8 + last) (8 * last + 8 - (a.at % 8 + l.w)) l.v
+          (written_turn a.at a.width l.w n (a.at / 8 + last) (8 * last + 8 - (a.at % 8 + l.w)) l.v
           (omega arith) (omega arith) (omega arith) (omega arith) (omega (arith, l.invariant.2.long)) l.invariant.1 l.invariant.2),
     )
 
@@ -109,8 +109,8 @@ returns-3 c =
     let p : Written a.s.now a.at a.width a.value l.s = rw (e, add-zero, sub-zero) at l.invariant.2 in
     record { inside = λ _ _. p; outside = λ h. absurd (h (omega arith) (omega arith)) }
 
-pub put-field-spec : {M : Type 1} → statement M
-put-field-spec =
+pub put_field_spec : {M : Type 1} → statement M
+put_field_spec =
     tie.close
     (tie.spec
     invariant-loop

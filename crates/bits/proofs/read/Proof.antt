@@ -4,7 +4,7 @@ use mathlib.Core.Path.{◌≡◌, refl}
 use native.Mathlib.Omega.{arith}
 use native.Mathlib.Numerals.{add-one}
 use Rattle.bits.specs.Field.{field_of}
-use Rattle.bits.specs.FieldLaws.{bit-lt, field-lt-32}
+use Rattle.bits.specs.FieldLaws.{bit_lt, field_lt_32}
 use Rattle.bits.proofs.read.Statement.{statement}
 use Rattle.bits.proofs.read.Tie as tie
 
@@ -16,7 +16,7 @@ decreases-loop s at width acc₀ k₀ acc k = width - k
 
 -- what has been read so far fits 32 bits
 below : (c : tie.In-loop invariant-loop decreases-loop) → c.before.loop.acc < 4294967296
-below c = rw c.before.loop.invariant.1 (field-lt-32 _ _ _ (omega arith))
+below c = rw c.before.loop.invariant.1 (field_lt_32 _ _ _ (omega arith))
 
 loop-holds : tie.Need-loop-init invariant-loop decreases-loop
 unfolding field_of
@@ -35,7 +35,7 @@ add-acc : tie.Need-overflow-add-acc invariant-loop decreases-loop
 add-acc c =
     let l = c.before.before in
     let a = l.before.before.args in
-    omega (arith, below c.before, c.bit.ensures, bit-lt a.s.now (a.at + l.loop.k))
+    omega (arith, below c.before, c.bit.ensures, bit_lt a.s.now (a.at + l.loop.k))
 
 add-k : tie.Need-overflow-add-k invariant-loop decreases-loop
 add-k c = omega arith

@@ -3,7 +3,7 @@ use Prim.Native.Nat.{◌<◌}
 use native.Mathlib.Omega.{arith}
 use borrow.Author.Rules.{rules}
 use lib.Pow.{pow_pos}
-use Rattle.bits.specs.Digits.{splice, splice-byte}
+use Rattle.bits.specs.Digits.{splice, splice_byte}
 use Rattle.bits.proofs.spliced.Statement.{statement}
 use Rattle.bits.proofs.spliced.Tie as tie
 
@@ -21,7 +21,7 @@ div-result c = rw c.before.power.ensures (pow_pos _)
 
 -- each part of the sum is below 256, as the sum is
 whole : (c : tie.After-power2) → let a = c.before.before.args in splice a.b a.n a.j a.v < 256
-whole c = let a = c.before.before.args in splice-byte a.b a.n a.j a.v (omega arith) (omega arith)
+whole c = let a = c.before.before.args in splice_byte a.b a.n a.j a.v (omega arith) (omega arith)
 
 mul-result : tie.Need-overflow-mul-result
 unfolding splice
@@ -56,8 +56,8 @@ returns : tie.Need-returns
 unfolding splice
 returns c = rw (c.power3.ensures, c.before.power2.ensures, c.before.before.power.ensures)
 
-pub spliced-spec : {M : Type 1} → statement M
-spliced-spec =
+pub spliced_spec : {M : Type 1} → statement M
+spliced_spec =
     tie.close
     (tie.spec
     add-power

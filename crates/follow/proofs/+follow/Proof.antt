@@ -5,8 +5,8 @@ use mathlib.Core.Path.{◌≡◌, refl, sym, ap, ◌∙◌}
 use native.Mathlib.Omega.{arith}
 use lib.ListN.{length, get_or, take, length-take}
 use lib.Seq.{length-take-le}
-use Rattle.follow.specs.Place.{place_of, copiesOf}
-use Rattle.follow.proofs.Copies.{follow-none, follow-own, follow-on, is-own, is-parent, short, placed, onward}
+use Rattle.follow.specs.Place.{place_of, copies_of}
+use Rattle.follow.proofs.Copies.{follow-none, follow_own, follow_on, is_own, is_parent, short, placed, onward}
 use Prim.Native.Nat.{ℕ, ◌<◌}
 use borrow.Fn.Kinds.{In}
 use borrow.Fn.PlainCycle.{Measures, is, falls, and}

@@ -4,15 +4,15 @@ use mathlib.Core.Path.{◌≡◌, refl, sym, ap, ◌∙◌}
 use native.Mathlib.Omega.{arith}
 use borrow.Author.Rules.{rules}
 use lib.ListN.{length, drop}
-use Rattle.lexical.specs.Follow.{fromIn}
+use Rattle.lexical.specs.Follow.{from_in}
 use Rattle.follow.specs.declared.From.TheVariants.{Parent}
-use Rattle.follow.specs.Place.{copiesOf, fromOf}
-use Rattle.follow.proofs.Copies.{from_next, from-here, from-none}
+use Rattle.follow.specs.Place.{copies_of, from_of}
+use Rattle.follow.proofs.Copies.{from_next, from_here, from-none}
 use Rattle.follow.proofs.copied_from.Statement.{statement}
 use Rattle.follow.proofs.copied_from.Tie as tie
 
 abbrev invariant-loop : tie.invariant-loop
-invariant-loop copies scope slot c₀ c = (c ≤ length copies) × (fromIn scope slot (copiesOf (drop c copies)) ≡ fromIn scope slot (copiesOf copies))
+invariant-loop copies scope slot c₀ c = (c ≤ length copies) × (from_in scope slot (copies_of (drop c copies)) ≡ from_in scope slot (copies_of copies))
 
 abbrev decreases-loop : tie.decreases-loop
 decreases-loop copies scope slot c₀ c = length copies - c
@@ -36,8 +36,8 @@ returns : tie.Need-returns invariant-loop decreases-loop
 returns c =
     let a = c.before.before.before.before.before.before.before.args in
     let l = c.before.before.before.before.before.loop in
-    let e = from-here a.copies.now a.scope a.slot l.c (omega arith) (sym c.before.before.fills.ensures ∙ c.before.if1.true) in
-    ap (λ (x : ℕ). Parent (record { 0 = x })) c.parent.ensures.is ∙ sym (ap fromOf (sym l.invariant.1 ∙ e))
+    let e = from_here a.copies.now a.scope a.slot l.c (omega arith) (sym c.before.before.fills.ensures ∙ c.before.if1.true) in
+    ap (λ (x : ℕ). Parent (record { 0 = x })) c.parent.ensures.is ∙ sym (ap from_of (sym l.invariant.1 ∙ e))
 
 add-c : tie.Need-overflow-add-c invariant-loop decreases-loop
 add-c c = search rules
@@ -55,10 +55,10 @@ returns-2 : tie.Need-returns-2 invariant-loop decreases-loop
 returns-2 c =
     let a = c.before.before.before.args in
     let l = c.before.loop in
-    sym (ap fromOf (sym l.invariant.1 ∙ from-none a.copies.now a.scope a.slot l.c (omega arith)))
+    sym (ap from_of (sym l.invariant.1 ∙ from-none a.copies.now a.scope a.slot l.c (omega arith)))
 
-pub copied-from-spec : {M : Type 1} → statement M
-copied-from-spec =
+pub copied_from_spec : {M : Type 1} → statement M
+copied_from_spec =
     tie.close
     (tie.spec
     invariant-loop

@@ -53,8 +53,8 @@ returns c = other_length (omega arith)
 returns-2 : tie.Need-returns-2
 returns-2 c = λ f. elim f [ other_length h ↦ omega arith ]
 
-pub bad-length-spec : {M : Type 1} → statement M
-bad-length-spec =
+pub bad_length_spec : {M : Type 1} → statement M
+bad_length_spec =
     tie.close
     (tie.spec
     node-count-requires

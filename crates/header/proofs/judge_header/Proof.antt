@@ -35,8 +35,8 @@ returns-4 c =
     let three' = says-false c.before.before.if2.false c.before.before.before.bad-counts.ensures in
     later two' (later three' (later (says-false c.if3.false c.before.bad-length.ensures) refl))
 
-pub judge-header-spec : {M : Type 1} → statement M
-judge-header-spec =
+pub judge_header_spec : {M : Type 1} → statement M
+judge_header_spec =
     tie.close
     (tie.spec
     bad-header-requires

@@ -6,12 +6,12 @@ use mathlib.Core.Logic.{inl, inr}
 use Prim.Native.Nat.{ℕ, ◌+◌, ◌-◌, ◌*◌, ◌<◌}
 use lib.ListN.{length, drop}
 use Rattle.store.specs.Sections.{mem}
-use Rattle.nodefile.specs.Parts.{kind-take, size-from}
-use Rattle.idents.proofs.Steps.{Mid, kind-is, k_start, k-end, k-node, k-length, k-pre, k-more, k-into, any-done, x-long, x-kind, x-kids-length, x-kids-pre, x_others, x-type, x-ident-pre, x-ident}
-use Rattle.idents.proofs.Cuts.{for-clause, clause-some, f-inside, f-front-length, f-back-length, c-rest-pre, c-first-pre, c-done}
-use Rattle.idents.proofs.Functions.{d-last-pre, d-inside, d-front-length, d-back-length, d-front-pre, d-enter-pre, d-body-pre, d-leave-pre, d-done}
-use Rattle.idents.proofs.Leaves.{x-leaf}
-use Rattle.idents.proofs.Comprs.{q-some, q-first-pre, q-compr-pre, q-rest-pre, q-full, q-close-pre, q-done}
+use Rattle.nodefile.specs.Parts.{kind_take, size_from}
+use Rattle.idents.proofs.Steps.{Mid, kind_is, k_start, k_end, k_node, k_length, k_pre, k_more, k_into, any_done, x_long, x_kind, x_kids_length, x_kids_pre, x_others, x_type, x_ident_pre, x_ident}
+use Rattle.idents.proofs.Cuts.{for_clause, clause_some, f_inside, f_front-length, f_back-length, c_rest_pre, c_first_pre, c_done}
+use Rattle.idents.proofs.Functions.{d_last_pre, d_inside, d_front-length, d_back-length, d_front_pre, d_enter_pre, d_body_pre, d_leave_pre, d_done}
+use Rattle.idents.proofs.Leaves.{x_leaf}
+use Rattle.idents.proofs.Comprs.{q_some, q_first_pre, q_compr_pre, q_rest_pre, q_full, q_close_pre, q_done}
 use borrow.Fn.Kinds.{In}
 use borrow.Fn.PlainCycle.{Measures, is, falls, and}
 use Rattle.idents.proofs.each.Reads as each
@@ -45,7 +45,7 @@ use Rattle.idents.proofs.resolve_node.Reads as resolve-node
 use Rattle.idents.proofs.resolve_node.Kinds as resolve-node-kinds
 use Rattle.idents.proofs.+each_idents_in_assign_idents_in_clause_idents_in_compr_idents_in_def_idents_in_expr_idents_in_param_idents_in_type_expr_resolve_idents_resolve_node.Lts-resolve_node as resolve-node-lts
 use Rattle.collect.proofs.add_compr.Reads as add-compr-reads
-use Rattle.idents.proofs.last.Reads as last-reads
+use Rattle.idents.proofs.last.Reads as last_reads
 use Rattle.lookup.proofs.enter_def.Reads as enter-def-reads
 use Rattle.lookup.proofs.exit_def.Reads as exit-def-reads
 use Rattle.lookup.proofs.resolve_ident.Reads as resolve-ident-reads
@@ -251,7 +251,7 @@ abbrev idents-in-compr-calls : ℕ → idents-in-compr-lts.Claims
 idents-in-compr-calls t = (size-reads.Asked, size-reads.Learnt, resolve-node-below t, resolve-node.Post, add-compr-reads.Asked, add-compr-reads.Learnt, each_below t, each.Post, unscope-reads.Asked, unscope-reads.Learnt)
 
 abbrev idents-in-def-calls : ℕ → idents-in-def-lts.Claims
-idents-in-def-calls t = (value-reads.Asked, value-reads.Learnt, last-reads.Asked, last-reads.Learnt, each_below t, each.Post, enter-def-reads.Asked, enter-def-reads.Learnt, resolve-node-below t, resolve-node.Post, exit-def-reads.Asked, exit-def-reads.Learnt)
+idents-in-def-calls t = (value-reads.Asked, value-reads.Learnt, last_reads.Asked, last_reads.Learnt, each_below t, each.Post, enter-def-reads.Asked, enter-def-reads.Learnt, resolve-node-below t, resolve-node.Post, exit-def-reads.Asked, exit-def-reads.Learnt)
 
 abbrev idents-in-expr-calls : ℕ → idents-in-expr-lts.Claims
 idents-in-expr-calls t = (kind-reads.Asked, kind-reads.Learnt, value-reads.Asked, value-reads.Learnt, resolve-ident-reads.Asked, resolve-ident-reads.Learnt, idents-in-def-below t, idents-in-def.Post, idents-in-compr-below t, idents-in-compr.Post, each_below t, each.Post)
@@ -284,79 +284,79 @@ each-size-requires : (t : ℕ) → each-lts.Need-size-requires (each-calls t) (e
 each-size-requires t c κs = search rules
 
 each-mul-e : (t : ℕ) → each-lts.Need-overflow-mul-e (each-calls t) (each_at t) each.Post each-Inv-loop each-μ-loop
-each-mul-e t c = let f = k-node c.before.before.before.loop.invariant c.before.before.loop-test.true c.before.before.before.before.before.before.before.before.requires.1.ghost in let e = (c.size.ensures.is ∙ size-from c.before.before.before.before.before.before.before.before.args.part.now c.before.before.before.loop.i) in omega (arith, c.before.before.before.before.before.before.before.before.requires.1.within)
+each-mul-e t c = let f = k_node c.before.before.before.loop.invariant c.before.before.loop-test.true c.before.before.before.before.before.before.before.before.requires.1.ghost in let e = (c.size.ensures.is ∙ size_from c.before.before.before.before.before.before.before.before.args.part.now c.before.before.before.loop.i) in omega (arith, c.before.before.before.before.before.before.before.before.requires.1.within)
 
 each-add-e : (t : ℕ) → each-lts.Need-overflow-add-e (each-calls t) (each_at t) each.Post each-Inv-loop each-μ-loop
-each-add-e t c = let f = k-node c.before.before.before.loop.invariant c.before.before.loop-test.true c.before.before.before.before.before.before.before.before.requires.1.ghost in let e = (c.size.ensures.is ∙ size-from c.before.before.before.before.before.before.before.before.args.part.now c.before.before.before.loop.i) in omega (arith, c.before.before.before.before.before.before.before.before.requires.1.within)
+each-add-e t c = let f = k_node c.before.before.before.loop.invariant c.before.before.loop-test.true c.before.before.before.before.before.before.before.before.requires.1.ghost in let e = (c.size.ensures.is ∙ size_from c.before.before.before.before.before.before.before.before.args.part.now c.before.before.before.loop.i) in omega (arith, c.before.before.before.before.before.before.before.before.requires.1.within)
 
 each-sub-here : (t : ℕ) → each-lts.Need-overflow-sub-here (each-calls t) (each_at t) each.Post each-Inv-loop each-μ-loop
-each-sub-here t c = let f = k-node c.before.before.before.loop.invariant c.before.before.loop-test.true c.before.before.before.before.before.before.before.before.requires.1.ghost in let e = (c.size.ensures.is ∙ size-from c.before.before.before.before.before.before.before.before.args.part.now c.before.before.before.loop.i) in omega (arith, c.before.before.before.before.before.before.before.before.requires.1.within)
+each-sub-here t c = let f = k_node c.before.before.before.loop.invariant c.before.before.loop-test.true c.before.before.before.before.before.before.before.before.requires.1.ghost in let e = (c.size.ensures.is ∙ size_from c.before.before.before.before.before.before.before.before.args.part.now c.before.before.before.loop.i) in omega (arith, c.before.before.before.before.before.before.before.before.requires.1.within)
 
 each-part-here-start : (t : ℕ) → each-lts.Need-slice-bounds-here-start (each-calls t) (each_at t) each.Post each-Inv-loop each-μ-loop
-each-part-here-start t c = let f = k-node c.before.before.before.loop.invariant c.before.before.loop-test.true c.before.before.before.before.before.before.before.before.requires.1.ghost in let e = (c.size.ensures.is ∙ size-from c.before.before.before.before.before.before.before.before.args.part.now c.before.before.before.loop.i) in omega (arith, c.before.before.before.before.before.before.before.before.requires.1.within)
+each-part-here-start t c = let f = k_node c.before.before.before.loop.invariant c.before.before.loop-test.true c.before.before.before.before.before.before.before.before.requires.1.ghost in let e = (c.size.ensures.is ∙ size_from c.before.before.before.before.before.before.before.before.args.part.now c.before.before.before.loop.i) in omega (arith, c.before.before.before.before.before.before.before.before.requires.1.within)
 
 each-part-here-end : (t : ℕ) → each-lts.Need-slice-bounds-here-end (each-calls t) (each_at t) each.Post each-Inv-loop each-μ-loop
-each-part-here-end t c = let f = k-node c.before.before.before.loop.invariant c.before.before.loop-test.true c.before.before.before.before.before.before.before.before.requires.1.ghost in let e = (c.size.ensures.is ∙ size-from c.before.before.before.before.before.before.before.before.args.part.now c.before.before.before.loop.i) in omega (arith, c.before.before.before.before.before.before.before.before.requires.1.within)
+each-part-here-end t c = let f = k_node c.before.before.before.loop.invariant c.before.before.loop-test.true c.before.before.before.before.before.before.before.before.requires.1.ghost in let e = (c.size.ensures.is ∙ size_from c.before.before.before.before.before.before.before.before.args.part.now c.before.before.before.loop.i) in omega (arith, c.before.before.before.before.before.before.before.before.requires.1.within)
 
 each-kind-requires : (t : ℕ) → each-lts.Need-kind-requires (each-calls t) (each_at t) each.Post each-Inv-loop each-μ-loop
 each-kind-requires t c κs = search rules
 
 each-add-n : (t : ℕ) → each-lts.Need-overflow-add-n (each-calls t) (each_at t) each.Post each-Inv-loop each-μ-loop
-each-add-n t c = let f = k-node c.before.before.before.before.before.before.loop.invariant c.before.before.before.before.before.loop-test.true c.before.before.before.before.before.before.before.before.before.before.before.requires.1.ghost in let e = (c.before.before.before.size.ensures.is ∙ size-from c.before.before.before.before.before.before.before.before.before.before.before.args.part.now c.before.before.before.before.before.before.loop.i) in omega (arith, c.before.before.before.before.before.before.before.before.before.before.before.requires.1.within, c.before.before.before.before.before.before.loop.invariant.number)
+each-add-n t c = let f = k_node c.before.before.before.before.before.before.loop.invariant c.before.before.before.before.before.loop-test.true c.before.before.before.before.before.before.before.before.before.before.before.requires.1.ghost in let e = (c.before.before.before.size.ensures.is ∙ size_from c.before.before.before.before.before.before.before.before.before.before.before.args.part.now c.before.before.before.before.before.before.loop.i) in omega (arith, c.before.before.before.before.before.before.before.before.before.before.before.requires.1.within, c.before.before.before.before.before.before.loop.invariant.number)
 
 each-add-i : (t : ℕ) → each-lts.Need-overflow-add-i (each-calls t) (each_at t) each.Post each-Inv-loop each-μ-loop
-each-add-i t c = let f = k-node c.before.before.before.before.before.before.loop.invariant c.before.before.before.before.before.loop-test.true c.before.before.before.before.before.before.before.before.before.before.before.requires.1.ghost in let e = (c.before.before.before.size.ensures.is ∙ size-from c.before.before.before.before.before.before.before.before.before.before.before.args.part.now c.before.before.before.before.before.before.loop.i) in omega (arith, c.before.before.before.before.before.before.before.before.before.before.before.requires.1.within, c.before.before.before.before.before.before.loop.invariant.number)
+each-add-i t c = let f = k_node c.before.before.before.before.before.before.loop.invariant c.before.before.before.before.before.loop-test.true c.before.before.before.before.before.before.before.before.before.before.before.requires.1.ghost in let e = (c.before.before.before.size.ensures.is ∙ size_from c.before.before.before.before.before.before.before.before.before.before.before.args.part.now c.before.before.before.before.before.before.loop.i) in omega (arith, c.before.before.before.before.before.before.before.before.before.before.before.requires.1.within, c.before.before.before.before.before.before.loop.invariant.number)
 
 each-loop-less : (t : ℕ) → each-lts.Need-loop-smaller (each-calls t) (each_at t) each.Post each-Inv-loop each-μ-loop
-each-loop-less t c = let f = k-node c.before.before.before.before.before.before.loop.invariant c.before.before.before.before.before.loop-test.true c.before.before.before.before.before.before.before.before.before.before.before.requires.1.ghost in let e = (c.before.before.before.size.ensures.is ∙ size-from c.before.before.before.before.before.before.before.before.before.before.before.args.part.now c.before.before.before.before.before.before.loop.i) in omega (arith, c.before.before.before.before.before.before.before.before.before.before.before.requires.1.within, c.before.before.before.before.before.before.loop.invariant.number)
+each-loop-less t c = let f = k_node c.before.before.before.before.before.before.loop.invariant c.before.before.before.before.before.loop-test.true c.before.before.before.before.before.before.before.before.before.before.before.requires.1.ghost in let e = (c.before.before.before.size.ensures.is ∙ size_from c.before.before.before.before.before.before.before.before.before.before.before.args.part.now c.before.before.before.before.before.before.loop.i) in omega (arith, c.before.before.before.before.before.before.before.before.before.before.before.requires.1.within, c.before.before.before.before.before.before.loop.invariant.number)
 
 each-loop-again : (t : ℕ) → each-lts.Need-loop-preserved (each-calls t) (each_at t) each.Post each-Inv-loop each-μ-loop
 each-loop-again t c =
-    let f = k-node c.before.before.before.before.before.before.loop.invariant c.before.before.before.before.before.loop-test.true c.before.before.before.before.before.before.before.before.before.before.before.requires.1.ghost in
-    let e = (c.before.before.before.size.ensures.is ∙ size-from c.before.before.before.before.before.before.before.before.before.before.before.args.part.now c.before.before.before.before.before.before.loop.i) in
-    k-into c.before.before.before.before.before.before.loop.invariant c.before.before.before.before.before.loop-test.true (sym (kind-take (drop c.before.before.before.before.before.before.loop.i c.before.before.before.before.before.before.before.before.before.before.before.args.part.now) (c.before.before.before.before.before.before.loop.i + 8 * c.before.before.before.size.result - c.before.before.before.before.before.before.loop.i) (omega (arith, e, f.some))) ∙ sym c.before.kind.ensures.is ∙ c.if1.true) c.before.before.before.before.before.before.before.before.before.before.before.requires.1.ghost
+    let f = k_node c.before.before.before.before.before.before.loop.invariant c.before.before.before.before.before.loop-test.true c.before.before.before.before.before.before.before.before.before.before.before.requires.1.ghost in
+    let e = (c.before.before.before.size.ensures.is ∙ size_from c.before.before.before.before.before.before.before.before.before.before.before.args.part.now c.before.before.before.before.before.before.loop.i) in
+    k_into c.before.before.before.before.before.before.loop.invariant c.before.before.before.before.before.loop-test.true (sym (kind_take (drop c.before.before.before.before.before.before.loop.i c.before.before.before.before.before.before.before.before.before.before.before.args.part.now) (c.before.before.before.before.before.before.loop.i + 8 * c.before.before.before.size.result - c.before.before.before.before.before.before.loop.i) (omega (arith, e, f.some))) ∙ sym c.before.kind.ensures.is ∙ c.if1.true) c.before.before.before.before.before.before.before.before.before.before.before.requires.1.ghost
 
 each-add-n-2 : (t : ℕ) → each-lts.Need-overflow-add-n-2 (each-calls t) (each_at t) each.Post each-Inv-loop each-μ-loop
-each-add-n-2 t c = let f = k-node c.before.before.before.before.before.before.loop.invariant c.before.before.before.before.before.loop-test.true c.before.before.before.before.before.before.before.before.before.before.before.requires.1.ghost in let e = (c.before.before.before.size.ensures.is ∙ size-from c.before.before.before.before.before.before.before.before.before.before.before.args.part.now c.before.before.before.before.before.before.loop.i) in omega (arith, c.before.before.before.before.before.before.before.before.before.before.before.requires.1.within, c.before.before.before.before.before.before.loop.invariant.number)
+each-add-n-2 t c = let f = k_node c.before.before.before.before.before.before.loop.invariant c.before.before.before.before.before.loop-test.true c.before.before.before.before.before.before.before.before.before.before.before.requires.1.ghost in let e = (c.before.before.before.size.ensures.is ∙ size_from c.before.before.before.before.before.before.before.before.before.before.before.args.part.now c.before.before.before.before.before.before.loop.i) in omega (arith, c.before.before.before.before.before.before.before.before.before.before.before.requires.1.within, c.before.before.before.before.before.before.loop.invariant.number)
 
 each-resolve-node-requires : (t : ℕ) → each-lts.Need-resolve-node-requires (each-calls t) (each_at t) each.Post each-Inv-loop each-μ-loop
 each-resolve-node-requires t c κs =
-    let e = (c.before.before.before.before.before.before.before.size.ensures.is ∙ size-from c.before.before.before.before.before.before.before.before.before.before.before.before.before.before.before.args.part.now c.before.before.before.before.before.before.before.before.before.before.loop.i) in
-    let f = k-node c.before.before.before.before.before.before.before.before.before.before.loop.invariant c.before.before.before.before.before.before.before.before.before.loop-test.true c.before.before.before.before.before.before.before.before.before.before.before.before.before.before.before.requires.1.ghost in
-    let w = k-length c.before.before.before.before.before.before.before.before.before.before.loop.invariant c.before.before.before.before.before.before.before.before.before.loop-test.true c.before.before.before.before.before.before.before.size.result e c.before.before.before.before.before.before.before.before.before.before.before.before.before.before.before.requires.1.ghost in
-    (omega (arith, c.before.before.before.before.before.before.before.before.before.before.before.before.before.before.before.requires.0), k-pre c.before.before.before.before.before.before.before.before.before.before.loop.invariant c.before.before.before.before.before.before.before.before.before.loop-test.true c.before.before.before.before.before.before.before.size.result e c.before.before.before.before.before.before.before.before.before.before.before.before.before.before.before.requires.1.within c.before.before.before.before.before.before.before.before.before.before.before.before.before.before.before.requires.1.ghost)
+    let e = (c.before.before.before.before.before.before.before.size.ensures.is ∙ size_from c.before.before.before.before.before.before.before.before.before.before.before.before.before.before.before.args.part.now c.before.before.before.before.before.before.before.before.before.before.loop.i) in
+    let f = k_node c.before.before.before.before.before.before.before.before.before.before.loop.invariant c.before.before.before.before.before.before.before.before.before.loop-test.true c.before.before.before.before.before.before.before.before.before.before.before.before.before.before.before.requires.1.ghost in
+    let w = k_length c.before.before.before.before.before.before.before.before.before.before.loop.invariant c.before.before.before.before.before.before.before.before.before.loop-test.true c.before.before.before.before.before.before.before.size.result e c.before.before.before.before.before.before.before.before.before.before.before.before.before.before.before.requires.1.ghost in
+    (omega (arith, c.before.before.before.before.before.before.before.before.before.before.before.before.before.before.before.requires.0), k_pre c.before.before.before.before.before.before.before.before.before.before.loop.invariant c.before.before.before.before.before.before.before.before.before.loop-test.true c.before.before.before.before.before.before.before.size.result e c.before.before.before.before.before.before.before.before.before.before.before.before.before.before.before.requires.1.within c.before.before.before.before.before.before.before.before.before.before.before.before.before.before.before.requires.1.ghost)
 
 each-loop-less-2 : (t : ℕ) → each-lts.Need-loop-smaller-2 (each-calls t) (each_at t) each.Post each-Inv-loop each-μ-loop
-each-loop-less-2 t c = let f = k-node c.before.before.before.before.before.before.before.before.before.before.before.before.before.before.before.before.before.loop.invariant c.before.before.before.before.before.before.before.before.before.before.before.before.before.before.before.before.loop-test.true c.before.before.before.before.before.before.before.before.before.before.before.before.before.before.before.before.before.before.before.before.before.before.requires.1.ghost in let e = (c.before.before.before.before.before.before.before.before.before.before.before.before.before.before.size.ensures.is ∙ size-from c.before.before.before.before.before.before.before.before.before.before.before.before.before.before.before.before.before.before.before.before.before.before.args.part.now c.before.before.before.before.before.before.before.before.before.before.before.before.before.before.before.before.before.loop.i) in omega (arith, c.before.before.before.before.before.before.before.before.before.before.before.before.before.before.before.before.before.before.before.before.before.before.requires.1.within, c.before.before.before.before.before.before.before.before.before.before.before.before.before.before.before.before.before.loop.invariant.number)
+each-loop-less-2 t c = let f = k_node c.before.before.before.before.before.before.before.before.before.before.before.before.before.before.before.before.before.loop.invariant c.before.before.before.before.before.before.before.before.before.before.before.before.before.before.before.before.loop-test.true c.before.before.before.before.before.before.before.before.before.before.before.before.before.before.before.before.before.before.before.before.before.before.requires.1.ghost in let e = (c.before.before.before.before.before.before.before.before.before.before.before.before.before.before.size.ensures.is ∙ size_from c.before.before.before.before.before.before.before.before.before.before.before.before.before.before.before.before.before.before.before.before.before.before.args.part.now c.before.before.before.before.before.before.before.before.before.before.before.before.before.before.before.before.before.loop.i) in omega (arith, c.before.before.before.before.before.before.before.before.before.before.before.before.before.before.before.before.before.before.before.before.before.before.requires.1.within, c.before.before.before.before.before.before.before.before.before.before.before.before.before.before.before.before.before.loop.invariant.number)
 
 each-loop-again-2 : (t : ℕ) → each-lts.Need-loop-preserved-2 (each-calls t) (each_at t) each.Post each-Inv-loop each-μ-loop
 each-loop-again-2 t c =
-    let e = (c.before.before.before.before.before.before.before.before.before.before.before.before.before.before.size.ensures.is ∙ size-from c.before.before.before.before.before.before.before.before.before.before.before.before.before.before.before.before.before.before.before.before.before.before.args.part.now c.before.before.before.before.before.before.before.before.before.before.before.before.before.before.before.before.before.loop.i) in
-    k-more c.before.before.before.before.before.before.before.before.before.before.before.before.before.before.before.before.before.loop.invariant c.before.before.before.before.before.before.before.before.before.before.before.before.before.before.before.before.loop-test.true c.before.before.before.before.before.before.before.before.before.before.before.before.before.before.size.result e c.before.before.before.before.before.before.before.before.before.before.before.before.before.before.before.before.before.before.before.before.before.before.requires.1.ghost c.before.before.before.before.before.before.resolve-node.ensures (record { binds = c.before.before.before.before.before.before.resolve-node.auto.1.1.1.1.0; w = c.before.before.before.before.before.before.resolve-node.auto.1.1.1.1.1.0; t = c.before.before.before.before.before.before.resolve-node.auto.1.1.1.1.1.1.0 })
+    let e = (c.before.before.before.before.before.before.before.before.before.before.before.before.before.before.size.ensures.is ∙ size_from c.before.before.before.before.before.before.before.before.before.before.before.before.before.before.before.before.before.before.before.before.before.before.args.part.now c.before.before.before.before.before.before.before.before.before.before.before.before.before.before.before.before.before.loop.i) in
+    k_more c.before.before.before.before.before.before.before.before.before.before.before.before.before.before.before.before.before.loop.invariant c.before.before.before.before.before.before.before.before.before.before.before.before.before.before.before.before.loop-test.true c.before.before.before.before.before.before.before.before.before.before.before.before.before.before.size.result e c.before.before.before.before.before.before.before.before.before.before.before.before.before.before.before.before.before.before.before.before.before.before.requires.1.ghost c.before.before.before.before.before.before.resolve-node.ensures (record { binds = c.before.before.before.before.before.before.resolve-node.auto.1.1.1.1.0; w = c.before.before.before.before.before.before.resolve-node.auto.1.1.1.1.1.0; t = c.before.before.before.before.before.before.resolve-node.auto.1.1.1.1.1.1.0 })
 
 each-value-requires : (t : ℕ) → each-lts.Need-value-requires (each-calls t) (each_at t) each.Post each-Inv-loop each-μ-loop
 each-value-requires t c κs = search rules
 
 each-resolve-ident-requires : (t : ℕ) → each-lts.Need-resolve-ident-requires (each-calls t) (each_at t) each.Post each-Inv-loop each-μ-loop
 each-resolve-ident-requires t c κs =
-    let e = (c.before.before.before.before.before.before.before.before.before.size.ensures.is ∙ size-from c.before.before.before.before.before.before.before.before.before.before.before.before.before.before.before.before.before.args.part.now c.before.before.before.before.before.before.before.before.before.before.before.before.loop.i) in
-    x-ident-pre (k-pre c.before.before.before.before.before.before.before.before.before.before.before.before.loop.invariant c.before.before.before.before.before.before.before.before.before.before.before.loop-test.true c.before.before.before.before.before.before.before.before.before.size.result e c.before.before.before.before.before.before.before.before.before.before.before.before.before.before.before.before.before.requires.1.within c.before.before.before.before.before.before.before.before.before.before.before.before.before.before.before.before.before.requires.1.ghost) c.before.before.before.value.result c.before.before.before.value.ensures.is (sym c.before.before.before.before.before.before.before.kind.ensures.is ∙ c.before.before.before.before.if3.true)
+    let e = (c.before.before.before.before.before.before.before.before.before.size.ensures.is ∙ size_from c.before.before.before.before.before.before.before.before.before.before.before.before.before.before.before.before.before.args.part.now c.before.before.before.before.before.before.before.before.before.before.before.before.loop.i) in
+    x_ident_pre (k_pre c.before.before.before.before.before.before.before.before.before.before.before.before.loop.invariant c.before.before.before.before.before.before.before.before.before.before.before.loop-test.true c.before.before.before.before.before.before.before.before.before.size.result e c.before.before.before.before.before.before.before.before.before.before.before.before.before.before.before.before.before.requires.1.within c.before.before.before.before.before.before.before.before.before.before.before.before.before.before.before.before.before.requires.1.ghost) c.before.before.before.value.result c.before.before.before.value.ensures.is (sym c.before.before.before.before.before.before.before.kind.ensures.is ∙ c.before.before.before.before.if3.true)
 
 each-loop-less-3 : (t : ℕ) → each-lts.Need-loop-smaller-3 (each-calls t) (each_at t) each.Post each-Inv-loop each-μ-loop
-each-loop-less-3 t c = let f = k-node c.before.before.before.before.before.before.before.before.before.before.before.before.before.before.before.before.before.before.before.loop.invariant c.before.before.before.before.before.before.before.before.before.before.before.before.before.before.before.before.before.before.loop-test.true c.before.before.before.before.before.before.before.before.before.before.before.before.before.before.before.before.before.before.before.before.before.before.before.before.requires.1.ghost in let e = (c.before.before.before.before.before.before.before.before.before.before.before.before.before.before.before.before.size.ensures.is ∙ size-from c.before.before.before.before.before.before.before.before.before.before.before.before.before.before.before.before.before.before.before.before.before.before.before.before.args.part.now c.before.before.before.before.before.before.before.before.before.before.before.before.before.before.before.before.before.before.before.loop.i) in omega (arith, c.before.before.before.before.before.before.before.before.before.before.before.before.before.before.before.before.before.before.before.before.before.before.before.before.requires.1.within, c.before.before.before.before.before.before.before.before.before.before.before.before.before.before.before.before.before.before.before.loop.invariant.number)
+each-loop-less-3 t c = let f = k_node c.before.before.before.before.before.before.before.before.before.before.before.before.before.before.before.before.before.before.before.loop.invariant c.before.before.before.before.before.before.before.before.before.before.before.before.before.before.before.before.before.before.loop-test.true c.before.before.before.before.before.before.before.before.before.before.before.before.before.before.before.before.before.before.before.before.before.before.before.before.requires.1.ghost in let e = (c.before.before.before.before.before.before.before.before.before.before.before.before.before.before.before.before.size.ensures.is ∙ size_from c.before.before.before.before.before.before.before.before.before.before.before.before.before.before.before.before.before.before.before.before.before.before.before.before.args.part.now c.before.before.before.before.before.before.before.before.before.before.before.before.before.before.before.before.before.before.before.loop.i) in omega (arith, c.before.before.before.before.before.before.before.before.before.before.before.before.before.before.before.before.before.before.before.before.before.before.before.before.requires.1.within, c.before.before.before.before.before.before.before.before.before.before.before.before.before.before.before.before.before.before.before.loop.invariant.number)
 
 each-loop-again-3 : (t : ℕ) → each-lts.Need-loop-preserved-3 (each-calls t) (each_at t) each.Post each-Inv-loop each-μ-loop
 each-loop-again-3 t c =
-    let e = (c.before.before.before.before.before.before.before.before.before.before.before.before.before.before.before.before.size.ensures.is ∙ size-from c.before.before.before.before.before.before.before.before.before.before.before.before.before.before.before.before.before.before.before.before.before.before.before.before.args.part.now c.before.before.before.before.before.before.before.before.before.before.before.before.before.before.before.before.before.before.before.loop.i) in
-    k-more c.before.before.before.before.before.before.before.before.before.before.before.before.before.before.before.before.before.before.before.loop.invariant c.before.before.before.before.before.before.before.before.before.before.before.before.before.before.before.before.before.before.loop-test.true c.before.before.before.before.before.before.before.before.before.before.before.before.before.before.before.before.size.result e c.before.before.before.before.before.before.before.before.before.before.before.before.before.before.before.before.before.before.before.before.before.before.before.before.requires.1.ghost (x-ident (k-pre c.before.before.before.before.before.before.before.before.before.before.before.before.before.before.before.before.before.before.before.loop.invariant c.before.before.before.before.before.before.before.before.before.before.before.before.before.before.before.before.before.before.loop-test.true c.before.before.before.before.before.before.before.before.before.before.before.before.before.before.before.before.size.result e c.before.before.before.before.before.before.before.before.before.before.before.before.before.before.before.before.before.before.before.before.before.before.before.before.requires.1.within c.before.before.before.before.before.before.before.before.before.before.before.before.before.before.before.before.before.before.before.before.before.before.before.before.requires.1.ghost) c.before.before.before.before.before.before.before.before.before.before.value.result c.before.before.before.before.before.before.before.before.before.before.value.ensures.is (sym c.before.before.before.before.before.before.before.before.before.before.before.before.before.before.kind.ensures.is ∙ c.before.before.before.before.before.before.before.before.before.before.before.if3.true) c.before.before.before.before.before.before.resolve-ident.ensures) (record { binds = c.before.before.before.before.before.before.resolve-ident.auto.1.1.1.1.0; w = c.before.before.before.before.before.before.resolve-ident.auto.1.1.1.1.1.0; t = c.before.before.before.before.before.before.resolve-ident.auto.1.1.1.1.1.1.0 })
+    let e = (c.before.before.before.before.before.before.before.before.before.before.before.before.before.before.before.before.size.ensures.is ∙ size_from c.before.before.before.before.before.before.before.before.before.before.before.before.before.before.before.before.before.before.before.before.before.before.before.before.args.part.now c.before.before.before.before.before.before.before.before.before.before.before.before.before.before.before.before.before.before.before.loop.i) in
+    k_more c.before.before.before.before.before.before.before.before.before.before.before.before.before.before.before.before.before.before.before.loop.invariant c.before.before.before.before.before.before.before.before.before.before.before.before.before.before.before.before.before.before.loop-test.true c.before.before.before.before.before.before.before.before.before.before.before.before.before.before.before.before.size.result e c.before.before.before.before.before.before.before.before.before.before.before.before.before.before.before.before.before.before.before.before.before.before.before.before.requires.1.ghost (x_ident (k_pre c.before.before.before.before.before.before.before.before.before.before.before.before.before.before.before.before.before.before.before.loop.invariant c.before.before.before.before.before.before.before.before.before.before.before.before.before.before.before.before.before.before.loop-test.true c.before.before.before.before.before.before.before.before.before.before.before.before.before.before.before.before.size.result e c.before.before.before.before.before.before.before.before.before.before.before.before.before.before.before.before.before.before.before.before.before.before.before.before.requires.1.within c.before.before.before.before.before.before.before.before.before.before.before.before.before.before.before.before.before.before.before.before.before.before.before.before.requires.1.ghost) c.before.before.before.before.before.before.before.before.before.before.value.result c.before.before.before.before.before.before.before.before.before.before.value.ensures.is (sym c.before.before.before.before.before.before.before.before.before.before.before.before.before.before.kind.ensures.is ∙ c.before.before.before.before.before.before.before.before.before.before.before.if3.true) c.before.before.before.before.before.before.resolve-ident.ensures) (record { binds = c.before.before.before.before.before.before.resolve-ident.auto.1.1.1.1.0; w = c.before.before.before.before.before.before.resolve-ident.auto.1.1.1.1.1.0; t = c.before.before.before.before.before.before.resolve-ident.auto.1.1.1.1.1.1.0 })
 
 each-loop-less-4 : (t : ℕ) → each-lts.Need-loop-smaller-4 (each-calls t) (each_at t) each.Post each-Inv-loop each-μ-loop
-each-loop-less-4 t c = let f = k-node c.before.before.before.before.before.before.before.before.loop.invariant c.before.before.before.before.before.before.before.loop-test.true c.before.before.before.before.before.before.before.before.before.before.before.before.before.requires.1.ghost in let e = (c.before.before.before.before.before.size.ensures.is ∙ size-from c.before.before.before.before.before.before.before.before.before.before.before.before.before.args.part.now c.before.before.before.before.before.before.before.before.loop.i) in omega (arith, c.before.before.before.before.before.before.before.before.before.before.before.before.before.requires.1.within, c.before.before.before.before.before.before.before.before.loop.invariant.number)
+each-loop-less-4 t c = let f = k_node c.before.before.before.before.before.before.before.before.loop.invariant c.before.before.before.before.before.before.before.loop-test.true c.before.before.before.before.before.before.before.before.before.before.before.before.before.requires.1.ghost in let e = (c.before.before.before.before.before.size.ensures.is ∙ size_from c.before.before.before.before.before.before.before.before.before.before.before.before.before.args.part.now c.before.before.before.before.before.before.before.before.loop.i) in omega (arith, c.before.before.before.before.before.before.before.before.before.before.before.before.before.requires.1.within, c.before.before.before.before.before.before.before.before.loop.invariant.number)
 
 each-loop-again-4 : (t : ℕ) → each-lts.Need-loop-preserved-4 (each-calls t) (each_at t) each.Post each-Inv-loop each-μ-loop
 each-loop-again-4 t c =
-    let e = (c.before.before.before.before.before.size.ensures.is ∙ size-from c.before.before.before.before.before.before.before.before.before.before.before.before.before.args.part.now c.before.before.before.before.before.before.before.before.loop.i) in
-    k-more c.before.before.before.before.before.before.before.before.loop.invariant c.before.before.before.before.before.before.before.loop-test.true c.before.before.before.before.before.size.result e c.before.before.before.before.before.before.before.before.before.before.before.before.before.requires.1.ghost (x-leaf (k-pre c.before.before.before.before.before.before.before.before.loop.invariant c.before.before.before.before.before.before.before.loop-test.true c.before.before.before.before.before.size.result e c.before.before.before.before.before.before.before.before.before.before.before.before.before.requires.1.within c.before.before.before.before.before.before.before.before.before.before.before.before.before.requires.1.ghost) (omega (arith, k-length c.before.before.before.before.before.before.before.before.loop.invariant c.before.before.before.before.before.before.before.loop-test.true c.before.before.before.before.before.size.result e c.before.before.before.before.before.before.before.before.before.before.before.before.before.requires.1.ghost, (k-pre c.before.before.before.before.before.before.before.before.loop.invariant c.before.before.before.before.before.before.before.loop-test.true c.before.before.before.before.before.size.result e c.before.before.before.before.before.before.before.before.before.before.before.before.before.requires.1.within c.before.before.before.before.before.before.before.before.before.before.before.before.before.requires.1.ghost).whole, c.before.if2.false)) (λ q. c.if3.false (c.before.before.before.kind.ensures.is ∙ q)) c.before.before.before.before.before.before.before.before.before.before.before.before.before.args.ty) (record { binds = refl; w = refl; t = refl })
+    let e = (c.before.before.before.before.before.size.ensures.is ∙ size_from c.before.before.before.before.before.before.before.before.before.before.before.before.before.args.part.now c.before.before.before.before.before.before.before.before.loop.i) in
+    k_more c.before.before.before.before.before.before.before.before.loop.invariant c.before.before.before.before.before.before.before.loop-test.true c.before.before.before.before.before.size.result e c.before.before.before.before.before.before.before.before.before.before.before.before.before.requires.1.ghost (x_leaf (k_pre c.before.before.before.before.before.before.before.before.loop.invariant c.before.before.before.before.before.before.before.loop-test.true c.before.before.before.before.before.size.result e c.before.before.before.before.before.before.before.before.before.before.before.before.before.requires.1.within c.before.before.before.before.before.before.before.before.before.before.before.before.before.requires.1.ghost) (omega (arith, k_length c.before.before.before.before.before.before.before.before.loop.invariant c.before.before.before.before.before.before.before.loop-test.true c.before.before.before.before.before.size.result e c.before.before.before.before.before.before.before.before.before.before.before.before.before.requires.1.ghost, (k_pre c.before.before.before.before.before.before.before.before.loop.invariant c.before.before.before.before.before.before.before.loop-test.true c.before.before.before.before.before.size.result e c.before.before.before.before.before.before.before.before.before.before.before.before.before.requires.1.within c.before.before.before.before.before.before.before.before.before.before.before.before.before.requires.1.ghost).whole, c.before.if2.false)) (λ q. c.if3.false (c.before.before.before.kind.ensures.is ∙ q)) c.before.before.before.before.before.before.before.before.before.before.before.before.before.args.ty) (record { binds = refl; w = refl; t = refl })
 
 each-same-length : (t : ℕ) → each-lts.Need-same-length (each-calls t) (each_at t) each.Post each-Inv-loop each-μ-loop
 each-same-length t c = c.before.loop.invariant.kept
@@ -368,18 +368,18 @@ each-same-length-3 : (t : ℕ) → each-lts.Need-same-length-3 (each-calls t) (e
 each-same-length-3 t c = search rules
 
 each-returns : (t : ℕ) → each-lts.Need-returns (each-calls t) (each_at t) each.Post each-Inv-loop each-μ-loop
-each-returns t c = k-end c.before.loop.invariant c.loop-test.false
+each-returns t c = k_end c.before.loop.invariant c.loop-test.false
 
 idents-in-assign-sub-each :
     (t : ℕ) →
     idents-in-assign-lts.Need-overflow-sub-each (idents-in-assign-calls t) (idents-in-assign-at t) idents-in-assign.Post
-idents-in-assign-sub-each t c = omega (arith, x-long c.before.before.before.before.requires.1.one)
+idents-in-assign-sub-each t c = omega (arith, x_long c.before.before.before.before.requires.1.one)
 
 idents-in-assign-part-each-start : (t : ℕ) → idents-in-assign-lts.Need-slice-bounds-each-start (idents-in-assign-calls t) (idents-in-assign-at t) idents-in-assign.Post
-idents-in-assign-part-each-start t c = omega (arith, x-long c.before.before.before.before.requires.1.one)
+idents-in-assign-part-each-start t c = omega (arith, x_long c.before.before.before.before.requires.1.one)
 
 idents-in-assign-part-each-end : (t : ℕ) → idents-in-assign-lts.Need-slice-bounds-each-end (idents-in-assign-calls t) (idents-in-assign-at t) idents-in-assign.Post
-idents-in-assign-part-each-end t c = omega (arith, x-long c.before.before.before.before.requires.1.one)
+idents-in-assign-part-each-end t c = omega (arith, x_long c.before.before.before.before.requires.1.one)
 
 idents-in-assign-add-each :
     (t : ℕ) →
@@ -387,7 +387,7 @@ idents-in-assign-add-each :
 idents-in-assign-add-each t c = omega (arith, c.before.before.before.before.before.requires.1.one.pre.within)
 
 idents-in-assign-each-requires : (t : ℕ) → idents-in-assign-lts.Need-each-requires (idents-in-assign-calls t) (idents-in-assign-at t) idents-in-assign.Post
-idents-in-assign-each-requires t c κs = let p = c.before.before.before.before.before.before.before.before.requires.1.one in (omega (arith, c.before.before.before.before.before.before.before.before.requires.0, x-kids-length p, x-long p), x-kids-pre p)
+idents-in-assign-each-requires t c κs = let p = c.before.before.before.before.before.before.before.before.requires.1.one in (omega (arith, c.before.before.before.before.before.before.before.before.requires.0, x_kids_length p, x_long p), x_kids_pre p)
 
 idents-in-assign-same-length : (t : ℕ) → idents-in-assign-lts.Need-same-length (idents-in-assign-calls t) (idents-in-assign-at t) idents-in-assign.Post
 idents-in-assign-same-length t c = search rules
@@ -407,19 +407,19 @@ idents-in-clause-kind-requires : (t : ℕ) → idents-in-clause-lts.Need-kind-re
 idents-in-clause-kind-requires t c κs = search rules
 
 idents-in-clause-sub-each : (t : ℕ) → idents-in-clause-lts.Need-overflow-sub-each (idents-in-clause-calls t) (idents-in-clause-at t) idents-in-clause.Post
-idents-in-clause-sub-each t c = omega (arith, x-long c.before.before.before.before.before.before.requires.1.one)
+idents-in-clause-sub-each t c = omega (arith, x_long c.before.before.before.before.before.before.requires.1.one)
 
 idents-in-clause-part-each-start : (t : ℕ) → idents-in-clause-lts.Need-slice-bounds-each-start (idents-in-clause-calls t) (idents-in-clause-at t) idents-in-clause.Post
-idents-in-clause-part-each-start t c = omega (arith, x-long c.before.before.before.before.before.before.requires.1.one)
+idents-in-clause-part-each-start t c = omega (arith, x_long c.before.before.before.before.before.before.requires.1.one)
 
 idents-in-clause-part-each-end : (t : ℕ) → idents-in-clause-lts.Need-slice-bounds-each-end (idents-in-clause-calls t) (idents-in-clause-at t) idents-in-clause.Post
-idents-in-clause-part-each-end t c = omega (arith, x-long c.before.before.before.before.before.before.requires.1.one)
+idents-in-clause-part-each-end t c = omega (arith, x_long c.before.before.before.before.before.before.requires.1.one)
 
 idents-in-clause-add-each : (t : ℕ) → idents-in-clause-lts.Need-overflow-add-each (idents-in-clause-calls t) (idents-in-clause-at t) idents-in-clause.Post
 idents-in-clause-add-each t c = omega (arith, c.before.before.before.before.before.before.before.requires.1.one.pre.within)
 
 idents-in-clause-each-requires : (t : ℕ) → idents-in-clause-lts.Need-each-requires (idents-in-clause-calls t) (idents-in-clause-at t) idents-in-clause.Post
-idents-in-clause-each-requires t c κs = let p = c.before.before.before.before.before.before.before.before.before.before.requires.1.one in (omega (arith, c.before.before.before.before.before.before.before.before.before.before.requires.0, x-kids-length p, x-long p), x-kids-pre p)
+idents-in-clause-each-requires t c κs = let p = c.before.before.before.before.before.before.before.before.before.before.requires.1.one in (omega (arith, c.before.before.before.before.before.before.before.before.before.before.requires.0, x_kids_length p, x_long p), x_kids_pre p)
 
 idents-in-clause-same-length : (t : ℕ) → idents-in-clause-lts.Need-same-length (idents-in-clause-calls t) (idents-in-clause-at t) idents-in-clause.Post
 idents-in-clause-same-length t c = search rules
@@ -434,13 +434,13 @@ idents-in-clause-returns : (t : ℕ) → idents-in-clause-lts.Need-returns (iden
 idents-in-clause-returns t c = x_others c.before.before.before.before.before.before.before.before.before.before.before.before.before.before.before.before.before.requires.1.one (omega (arith, c.before.before.before.before.before.before.before.before.before.before.before.before.kind.ensures.is, c.before.before.before.before.before.before.before.before.before.before.before.if1.true)) c.before.before.before.before.before.before.each.ensures
 
 idents-in-clause-sub-kids : (t : ℕ) → idents-in-clause-lts.Need-overflow-sub-kids (idents-in-clause-calls t) (idents-in-clause-at t) idents-in-clause.Post
-idents-in-clause-sub-kids t c = omega (arith, x-long c.before.before.before.before.before.before.requires.1.one)
+idents-in-clause-sub-kids t c = omega (arith, x_long c.before.before.before.before.before.before.requires.1.one)
 
 idents-in-clause-part-kids-start : (t : ℕ) → idents-in-clause-lts.Need-slice-bounds-kids-start (idents-in-clause-calls t) (idents-in-clause-at t) idents-in-clause.Post
-idents-in-clause-part-kids-start t c = omega (arith, x-long c.before.before.before.before.before.before.requires.1.one)
+idents-in-clause-part-kids-start t c = omega (arith, x_long c.before.before.before.before.before.before.requires.1.one)
 
 idents-in-clause-part-kids-end : (t : ℕ) → idents-in-clause-lts.Need-slice-bounds-kids-end (idents-in-clause-calls t) (idents-in-clause-at t) idents-in-clause.Post
-idents-in-clause-part-kids-end t c = omega (arith, x-long c.before.before.before.before.before.before.requires.1.one)
+idents-in-clause-part-kids-end t c = omega (arith, x_long c.before.before.before.before.before.before.requires.1.one)
 
 idents-in-clause-size-requires : (t : ℕ) → idents-in-clause-lts.Need-size-requires (idents-in-clause-calls t) (idents-in-clause-at t) idents-in-clause.Post
 idents-in-clause-size-requires t c κs = search rules
@@ -449,38 +449,38 @@ idents-in-clause-mul-b : (t : ℕ) → idents-in-clause-lts.Need-overflow-mul-b 
 idents-in-clause-mul-b t c = search rules
 
 idents-in-clause-sub-each-2 : (t : ℕ) → idents-in-clause-lts.Need-overflow-sub-each-2 (idents-in-clause-calls t) (idents-in-clause-at t) idents-in-clause.Post
-idents-in-clause-sub-each-2 t c = omega (arith, f-inside c.before.before.before.before.before.before.before.before.requires.1.one (clause-some c.before.before.before.before.before.before.before.before.requires.1.one (for-clause c.before.before.before.before.before.before.before.before.requires.1 c.before.before.before.kind.ensures.is c.before.before.if1.false)) _ (ap (λ (n : ℕ). 8 * n) c.size.ensures.is), x-kids-length c.before.before.before.before.before.before.before.before.requires.1.one)
+idents-in-clause-sub-each-2 t c = omega (arith, f_inside c.before.before.before.before.before.before.before.before.requires.1.one (clause_some c.before.before.before.before.before.before.before.before.requires.1.one (for_clause c.before.before.before.before.before.before.before.before.requires.1 c.before.before.before.kind.ensures.is c.before.before.if1.false)) _ (ap (λ (n : ℕ). 8 * n) c.size.ensures.is), x_kids_length c.before.before.before.before.before.before.before.before.requires.1.one)
 
 idents-in-clause-part-each-start-2 : (t : ℕ) → idents-in-clause-lts.Need-slice-bounds-each-start-2 (idents-in-clause-calls t) (idents-in-clause-at t) idents-in-clause.Post
-idents-in-clause-part-each-start-2 t c = omega (arith, f-inside c.before.before.before.before.before.before.before.before.requires.1.one (clause-some c.before.before.before.before.before.before.before.before.requires.1.one (for-clause c.before.before.before.before.before.before.before.before.requires.1 c.before.before.before.kind.ensures.is c.before.before.if1.false)) _ (ap (λ (n : ℕ). 8 * n) c.size.ensures.is), x-kids-length c.before.before.before.before.before.before.before.before.requires.1.one)
+idents-in-clause-part-each-start-2 t c = omega (arith, f_inside c.before.before.before.before.before.before.before.before.requires.1.one (clause_some c.before.before.before.before.before.before.before.before.requires.1.one (for_clause c.before.before.before.before.before.before.before.before.requires.1 c.before.before.before.kind.ensures.is c.before.before.if1.false)) _ (ap (λ (n : ℕ). 8 * n) c.size.ensures.is), x_kids_length c.before.before.before.before.before.before.before.before.requires.1.one)
 
 idents-in-clause-part-each-end-2 : (t : ℕ) → idents-in-clause-lts.Need-slice-bounds-each-end-2 (idents-in-clause-calls t) (idents-in-clause-at t) idents-in-clause.Post
-idents-in-clause-part-each-end-2 t c = omega (arith, f-inside c.before.before.before.before.before.before.before.before.requires.1.one (clause-some c.before.before.before.before.before.before.before.before.requires.1.one (for-clause c.before.before.before.before.before.before.before.before.requires.1 c.before.before.before.kind.ensures.is c.before.before.if1.false)) _ (ap (λ (n : ℕ). 8 * n) c.size.ensures.is), x-kids-length c.before.before.before.before.before.before.before.before.requires.1.one)
+idents-in-clause-part-each-end-2 t c = omega (arith, f_inside c.before.before.before.before.before.before.before.before.requires.1.one (clause_some c.before.before.before.before.before.before.before.before.requires.1.one (for_clause c.before.before.before.before.before.before.before.before.requires.1 c.before.before.before.kind.ensures.is c.before.before.if1.false)) _ (ap (λ (n : ℕ). 8 * n) c.size.ensures.is), x_kids_length c.before.before.before.before.before.before.before.before.requires.1.one)
 
 idents-in-clause-add-each-2 : (t : ℕ) → idents-in-clause-lts.Need-overflow-add-each-2 (idents-in-clause-calls t) (idents-in-clause-at t) idents-in-clause.Post
 idents-in-clause-add-each-2 t c = omega (arith, c.before.before.before.before.before.before.before.before.before.requires.1.one.pre.within)
 
 idents-in-clause-add-each-3 : (t : ℕ) → idents-in-clause-lts.Need-overflow-add-each-3 (idents-in-clause-calls t) (idents-in-clause-at t) idents-in-clause.Post
-idents-in-clause-add-each-3 t c = omega (arith, f-inside c.before.before.before.before.before.before.before.before.before.requires.1.one (clause-some c.before.before.before.before.before.before.before.before.before.requires.1.one (for-clause c.before.before.before.before.before.before.before.before.before.requires.1 c.before.before.before.before.kind.ensures.is c.before.before.before.if1.false)) _ (ap (λ (n : ℕ). 8 * n) c.before.size.ensures.is), c.before.before.before.before.before.before.before.before.before.requires.1.one.pre.within)
+idents-in-clause-add-each-3 t c = omega (arith, f_inside c.before.before.before.before.before.before.before.before.before.requires.1.one (clause_some c.before.before.before.before.before.before.before.before.before.requires.1.one (for_clause c.before.before.before.before.before.before.before.before.before.requires.1 c.before.before.before.before.kind.ensures.is c.before.before.before.if1.false)) _ (ap (λ (n : ℕ). 8 * n) c.before.size.ensures.is), c.before.before.before.before.before.before.before.before.before.requires.1.one.pre.within)
 
 idents-in-clause-each-requires-2 : (t : ℕ) → idents-in-clause-lts.Need-each-requires-2 (idents-in-clause-calls t) (idents-in-clause-at t) idents-in-clause.Post
-idents-in-clause-each-requires-2 t c κs = (omega (arith, c.before.before.before.before.before.before.before.before.before.before.before.before.requires.0, f-inside c.before.before.before.before.before.before.before.before.before.before.before.before.requires.1.one (clause-some c.before.before.before.before.before.before.before.before.before.before.before.before.requires.1.one (for-clause c.before.before.before.before.before.before.before.before.before.before.before.before.requires.1 c.before.before.before.before.before.before.before.kind.ensures.is c.before.before.before.before.before.before.if1.false)) _ (ap (λ (n : ℕ). 8 * n) c.before.before.before.before.size.ensures.is), f-back-length c.before.before.before.before.before.before.before.before.before.before.before.before.requires.1.one (clause-some c.before.before.before.before.before.before.before.before.before.before.before.before.requires.1.one (for-clause c.before.before.before.before.before.before.before.before.before.before.before.before.requires.1 c.before.before.before.before.before.before.before.kind.ensures.is c.before.before.before.before.before.before.if1.false)) _ (ap (λ (n : ℕ). 8 * n) c.before.before.before.before.size.ensures.is)), c-rest-pre c.before.before.before.before.before.before.before.before.before.before.before.before.requires.1.one (clause-some c.before.before.before.before.before.before.before.before.before.before.before.before.requires.1.one (for-clause c.before.before.before.before.before.before.before.before.before.before.before.before.requires.1 c.before.before.before.before.before.before.before.kind.ensures.is c.before.before.before.before.before.before.if1.false)) _ (ap (λ (n : ℕ). 8 * n) c.before.before.before.before.size.ensures.is))
+idents-in-clause-each-requires-2 t c κs = (omega (arith, c.before.before.before.before.before.before.before.before.before.before.before.before.requires.0, f_inside c.before.before.before.before.before.before.before.before.before.before.before.before.requires.1.one (clause_some c.before.before.before.before.before.before.before.before.before.before.before.before.requires.1.one (for_clause c.before.before.before.before.before.before.before.before.before.before.before.before.requires.1 c.before.before.before.before.before.before.before.kind.ensures.is c.before.before.before.before.before.before.if1.false)) _ (ap (λ (n : ℕ). 8 * n) c.before.before.before.before.size.ensures.is), f_back-length c.before.before.before.before.before.before.before.before.before.before.before.before.requires.1.one (clause_some c.before.before.before.before.before.before.before.before.before.before.before.before.requires.1.one (for_clause c.before.before.before.before.before.before.before.before.before.before.before.before.requires.1 c.before.before.before.before.before.before.before.kind.ensures.is c.before.before.before.before.before.before.if1.false)) _ (ap (λ (n : ℕ). 8 * n) c.before.before.before.before.size.ensures.is)), c_rest_pre c.before.before.before.before.before.before.before.before.before.before.before.before.requires.1.one (clause_some c.before.before.before.before.before.before.before.before.before.before.before.before.requires.1.one (for_clause c.before.before.before.before.before.before.before.before.before.before.before.before.requires.1 c.before.before.before.before.before.before.before.kind.ensures.is c.before.before.before.before.before.before.if1.false)) _ (ap (λ (n : ℕ). 8 * n) c.before.before.before.before.size.ensures.is))
 
 idents-in-clause-sub-resolve-node : (t : ℕ) → idents-in-clause-lts.Need-overflow-sub-resolve-node (idents-in-clause-calls t) (idents-in-clause-at t) idents-in-clause.Post
-idents-in-clause-sub-resolve-node t c = omega (arith, f-inside c.before.before.before.before.before.before.before.before.before.before.before.before.before.before.before.before.before.before.before.requires.1.one (clause-some c.before.before.before.before.before.before.before.before.before.before.before.before.before.before.before.before.before.before.before.requires.1.one (for-clause c.before.before.before.before.before.before.before.before.before.before.before.before.before.before.before.before.before.before.before.requires.1 c.before.before.before.before.before.before.before.before.before.before.before.before.before.before.kind.ensures.is c.before.before.before.before.before.before.before.before.before.before.before.before.before.if1.false)) _ (ap (λ (n : ℕ). 8 * n) c.before.before.before.before.before.before.before.before.before.before.before.size.ensures.is), x-kids-length c.before.before.before.before.before.before.before.before.before.before.before.before.before.before.before.before.before.before.before.requires.1.one)
+idents-in-clause-sub-resolve-node t c = omega (arith, f_inside c.before.before.before.before.before.before.before.before.before.before.before.before.before.before.before.before.before.before.before.requires.1.one (clause_some c.before.before.before.before.before.before.before.before.before.before.before.before.before.before.before.before.before.before.before.requires.1.one (for_clause c.before.before.before.before.before.before.before.before.before.before.before.before.before.before.before.before.before.before.before.requires.1 c.before.before.before.before.before.before.before.before.before.before.before.before.before.before.kind.ensures.is c.before.before.before.before.before.before.before.before.before.before.before.before.before.if1.false)) _ (ap (λ (n : ℕ). 8 * n) c.before.before.before.before.before.before.before.before.before.before.before.size.ensures.is), x_kids_length c.before.before.before.before.before.before.before.before.before.before.before.before.before.before.before.before.before.before.before.requires.1.one)
 
 idents-in-clause-part-resolve-node-start :
     (t : ℕ) → idents-in-clause-lts.Need-slice-bounds-resolve-node-start (idents-in-clause-calls t) (idents-in-clause-at t) idents-in-clause.Post
-idents-in-clause-part-resolve-node-start t c = omega (arith, f-inside c.before.before.before.before.before.before.before.before.before.before.before.before.before.before.before.before.before.before.before.requires.1.one (clause-some c.before.before.before.before.before.before.before.before.before.before.before.before.before.before.before.before.before.before.before.requires.1.one (for-clause c.before.before.before.before.before.before.before.before.before.before.before.before.before.before.before.before.before.before.before.requires.1 c.before.before.before.before.before.before.before.before.before.before.before.before.before.before.kind.ensures.is c.before.before.before.before.before.before.before.before.before.before.before.before.before.if1.false)) _ (ap (λ (n : ℕ). 8 * n) c.before.before.before.before.before.before.before.before.before.before.before.size.ensures.is), x-kids-length c.before.before.before.before.before.before.before.before.before.before.before.before.before.before.before.before.before.before.before.requires.1.one)
+idents-in-clause-part-resolve-node-start t c = omega (arith, f_inside c.before.before.before.before.before.before.before.before.before.before.before.before.before.before.before.before.before.before.before.requires.1.one (clause_some c.before.before.before.before.before.before.before.before.before.before.before.before.before.before.before.before.before.before.before.requires.1.one (for_clause c.before.before.before.before.before.before.before.before.before.before.before.before.before.before.before.before.before.before.before.requires.1 c.before.before.before.before.before.before.before.before.before.before.before.before.before.before.kind.ensures.is c.before.before.before.before.before.before.before.before.before.before.before.before.before.if1.false)) _ (ap (λ (n : ℕ). 8 * n) c.before.before.before.before.before.before.before.before.before.before.before.size.ensures.is), x_kids_length c.before.before.before.before.before.before.before.before.before.before.before.before.before.before.before.before.before.before.before.requires.1.one)
 
 idents-in-clause-part-resolve-node-end : (t : ℕ) → idents-in-clause-lts.Need-slice-bounds-resolve-node-end (idents-in-clause-calls t) (idents-in-clause-at t) idents-in-clause.Post
-idents-in-clause-part-resolve-node-end t c = omega (arith, f-inside c.before.before.before.before.before.before.before.before.before.before.before.before.before.before.before.before.before.before.before.requires.1.one (clause-some c.before.before.before.before.before.before.before.before.before.before.before.before.before.before.before.before.before.before.before.requires.1.one (for-clause c.before.before.before.before.before.before.before.before.before.before.before.before.before.before.before.before.before.before.before.requires.1 c.before.before.before.before.before.before.before.before.before.before.before.before.before.before.kind.ensures.is c.before.before.before.before.before.before.before.before.before.before.before.before.before.if1.false)) _ (ap (λ (n : ℕ). 8 * n) c.before.before.before.before.before.before.before.before.before.before.before.size.ensures.is), x-kids-length c.before.before.before.before.before.before.before.before.before.before.before.before.before.before.before.before.before.before.before.requires.1.one)
+idents-in-clause-part-resolve-node-end t c = omega (arith, f_inside c.before.before.before.before.before.before.before.before.before.before.before.before.before.before.before.before.before.before.before.requires.1.one (clause_some c.before.before.before.before.before.before.before.before.before.before.before.before.before.before.before.before.before.before.before.requires.1.one (for_clause c.before.before.before.before.before.before.before.before.before.before.before.before.before.before.before.before.before.before.before.requires.1 c.before.before.before.before.before.before.before.before.before.before.before.before.before.before.kind.ensures.is c.before.before.before.before.before.before.before.before.before.before.before.before.before.if1.false)) _ (ap (λ (n : ℕ). 8 * n) c.before.before.before.before.before.before.before.before.before.before.before.size.ensures.is), x_kids_length c.before.before.before.before.before.before.before.before.before.before.before.before.before.before.before.before.before.before.before.requires.1.one)
 
 idents-in-clause-add-resolve-node : (t : ℕ) → idents-in-clause-lts.Need-overflow-add-resolve-node (idents-in-clause-calls t) (idents-in-clause-at t) idents-in-clause.Post
 idents-in-clause-add-resolve-node t c = omega (arith, c.before.before.before.before.before.before.before.before.before.before.before.before.before.before.before.before.before.before.before.before.requires.1.one.pre.within)
 
 idents-in-clause-resolve-node-requires : (t : ℕ) → idents-in-clause-lts.Need-resolve-node-requires (idents-in-clause-calls t) (idents-in-clause-at t) idents-in-clause.Post
-idents-in-clause-resolve-node-requires t c κs = (omega (arith, c.before.before.before.before.before.before.before.before.before.before.before.before.before.before.before.before.before.before.before.before.before.before.before.requires.0, f-inside c.before.before.before.before.before.before.before.before.before.before.before.before.before.before.before.before.before.before.before.before.before.before.before.requires.1.one (clause-some c.before.before.before.before.before.before.before.before.before.before.before.before.before.before.before.before.before.before.before.before.before.before.before.requires.1.one (for-clause c.before.before.before.before.before.before.before.before.before.before.before.before.before.before.before.before.before.before.before.before.before.before.before.requires.1 c.before.before.before.before.before.before.before.before.before.before.before.before.before.before.before.before.before.before.kind.ensures.is c.before.before.before.before.before.before.before.before.before.before.before.before.before.before.before.before.before.if1.false)) _ (ap (λ (n : ℕ). 8 * n) c.before.before.before.before.before.before.before.before.before.before.before.before.before.before.before.size.ensures.is), f-front-length c.before.before.before.before.before.before.before.before.before.before.before.before.before.before.before.before.before.before.before.before.before.before.before.requires.1.one (clause-some c.before.before.before.before.before.before.before.before.before.before.before.before.before.before.before.before.before.before.before.before.before.before.before.requires.1.one (for-clause c.before.before.before.before.before.before.before.before.before.before.before.before.before.before.before.before.before.before.before.before.before.before.before.requires.1 c.before.before.before.before.before.before.before.before.before.before.before.before.before.before.before.before.before.before.kind.ensures.is c.before.before.before.before.before.before.before.before.before.before.before.before.before.before.before.before.before.if1.false)) _ (ap (λ (n : ℕ). 8 * n) c.before.before.before.before.before.before.before.before.before.before.before.before.before.before.before.size.ensures.is)), c-first-pre c.before.before.before.before.before.before.before.before.before.before.before.before.before.before.before.before.before.before.before.before.before.before.before.requires.1.one (clause-some c.before.before.before.before.before.before.before.before.before.before.before.before.before.before.before.before.before.before.before.before.before.before.before.requires.1.one (for-clause c.before.before.before.before.before.before.before.before.before.before.before.before.before.before.before.before.before.before.before.before.before.before.before.requires.1 c.before.before.before.before.before.before.before.before.before.before.before.before.before.before.before.before.before.before.kind.ensures.is c.before.before.before.before.before.before.before.before.before.before.before.before.before.before.before.before.before.if1.false)) _ (ap (λ (n : ℕ). 8 * n) c.before.before.before.before.before.before.before.before.before.before.before.before.before.before.before.size.ensures.is) c.before.before.before.before.before.before.before.before.before.before.each2.ensures (record { binds = c.before.before.before.before.before.before.before.before.before.before.each2.auto.1.1.1.1.0; w = c.before.before.before.before.before.before.before.before.before.before.each2.auto.1.1.1.1.1.0; t = c.before.before.before.before.before.before.before.before.before.before.each2.auto.1.1.1.1.1.1.0 }))
+idents-in-clause-resolve-node-requires t c κs = (omega (arith, c.before.before.before.before.before.before.before.before.before.before.before.before.before.before.before.before.before.before.before.before.before.before.before.requires.0, f_inside c.before.before.before.before.before.before.before.before.before.before.before.before.before.before.before.before.before.before.before.before.before.before.before.requires.1.one (clause_some c.before.before.before.before.before.before.before.before.before.before.before.before.before.before.before.before.before.before.before.before.before.before.before.requires.1.one (for_clause c.before.before.before.before.before.before.before.before.before.before.before.before.before.before.before.before.before.before.before.before.before.before.before.requires.1 c.before.before.before.before.before.before.before.before.before.before.before.before.before.before.before.before.before.before.kind.ensures.is c.before.before.before.before.before.before.before.before.before.before.before.before.before.before.before.before.before.if1.false)) _ (ap (λ (n : ℕ). 8 * n) c.before.before.before.before.before.before.before.before.before.before.before.before.before.before.before.size.ensures.is), f_front-length c.before.before.before.before.before.before.before.before.before.before.before.before.before.before.before.before.before.before.before.before.before.before.before.requires.1.one (clause_some c.before.before.before.before.before.before.before.before.before.before.before.before.before.before.before.before.before.before.before.before.before.before.before.requires.1.one (for_clause c.before.before.before.before.before.before.before.before.before.before.before.before.before.before.before.before.before.before.before.before.before.before.before.requires.1 c.before.before.before.before.before.before.before.before.before.before.before.before.before.before.before.before.before.before.kind.ensures.is c.before.before.before.before.before.before.before.before.before.before.before.before.before.before.before.before.before.if1.false)) _ (ap (λ (n : ℕ). 8 * n) c.before.before.before.before.before.before.before.before.before.before.before.before.before.before.before.size.ensures.is)), c_first_pre c.before.before.before.before.before.before.before.before.before.before.before.before.before.before.before.before.before.before.before.before.before.before.before.requires.1.one (clause_some c.before.before.before.before.before.before.before.before.before.before.before.before.before.before.before.before.before.before.before.before.before.before.before.requires.1.one (for_clause c.before.before.before.before.before.before.before.before.before.before.before.before.before.before.before.before.before.before.before.before.before.before.before.requires.1 c.before.before.before.before.before.before.before.before.before.before.before.before.before.before.before.before.before.before.kind.ensures.is c.before.before.before.before.before.before.before.before.before.before.before.before.before.before.before.before.before.if1.false)) _ (ap (λ (n : ℕ). 8 * n) c.before.before.before.before.before.before.before.before.before.before.before.before.before.before.before.size.ensures.is) c.before.before.before.before.before.before.before.before.before.before.each2.ensures (record { binds = c.before.before.before.before.before.before.before.before.before.before.each2.auto.1.1.1.1.0; w = c.before.before.before.before.before.before.before.before.before.before.each2.auto.1.1.1.1.1.0; t = c.before.before.before.before.before.before.before.before.before.before.each2.auto.1.1.1.1.1.1.0 }))
 
 idents-in-clause-same-length-4 : (t : ℕ) → idents-in-clause-lts.Need-same-length-4 (idents-in-clause-calls t) (idents-in-clause-at t) idents-in-clause.Post
 idents-in-clause-same-length-4 t c = search rules
@@ -492,16 +492,16 @@ idents-in-clause-same-length-6 : (t : ℕ) → idents-in-clause-lts.Need-same-le
 idents-in-clause-same-length-6 t c = search rules
 
 idents-in-clause-returns-2 : (t : ℕ) → idents-in-clause-lts.Need-returns-2 (idents-in-clause-calls t) (idents-in-clause-at t) idents-in-clause.Post
-idents-in-clause-returns-2 t c = c-done c.before.before.before.before.before.before.before.before.before.before.before.before.before.before.before.before.before.before.before.before.before.before.before.before.before.before.before.before.before.before.requires.1.one (clause-some c.before.before.before.before.before.before.before.before.before.before.before.before.before.before.before.before.before.before.before.before.before.before.before.before.before.before.before.before.before.before.requires.1.one (for-clause c.before.before.before.before.before.before.before.before.before.before.before.before.before.before.before.before.before.before.before.before.before.before.before.before.before.before.before.before.before.before.requires.1 c.before.before.before.before.before.before.before.before.before.before.before.before.before.before.before.before.before.before.before.before.before.before.before.before.before.kind.ensures.is c.before.before.before.before.before.before.before.before.before.before.before.before.before.before.before.before.before.before.before.before.before.before.before.before.if1.false)) _ (ap (λ (n : ℕ). 8 * n) c.before.before.before.before.before.before.before.before.before.before.before.before.before.before.before.before.before.before.before.before.before.before.size.ensures.is) c.before.before.before.before.before.before.before.before.before.before.before.before.before.before.before.before.before.each2.ensures (for-clause c.before.before.before.before.before.before.before.before.before.before.before.before.before.before.before.before.before.before.before.before.before.before.before.before.before.before.before.before.before.before.requires.1 c.before.before.before.before.before.before.before.before.before.before.before.before.before.before.before.before.before.before.before.before.before.before.before.before.before.kind.ensures.is c.before.before.before.before.before.before.before.before.before.before.before.before.before.before.before.before.before.before.before.before.before.before.before.before.if1.false) c.before.before.before.before.before.before.resolve-node.ensures
+idents-in-clause-returns-2 t c = c_done c.before.before.before.before.before.before.before.before.before.before.before.before.before.before.before.before.before.before.before.before.before.before.before.before.before.before.before.before.before.before.requires.1.one (clause_some c.before.before.before.before.before.before.before.before.before.before.before.before.before.before.before.before.before.before.before.before.before.before.before.before.before.before.before.before.before.before.requires.1.one (for_clause c.before.before.before.before.before.before.before.before.before.before.before.before.before.before.before.before.before.before.before.before.before.before.before.before.before.before.before.before.before.before.requires.1 c.before.before.before.before.before.before.before.before.before.before.before.before.before.before.before.before.before.before.before.before.before.before.before.before.before.kind.ensures.is c.before.before.before.before.before.before.before.before.before.before.before.before.before.before.before.before.before.before.before.before.before.before.before.before.if1.false)) _ (ap (λ (n : ℕ). 8 * n) c.before.before.before.before.before.before.before.before.before.before.before.before.before.before.before.before.before.before.before.before.before.before.size.ensures.is) c.before.before.before.before.before.before.before.before.before.before.before.before.before.before.before.before.before.each2.ensures (for_clause c.before.before.before.before.before.before.before.before.before.before.before.before.before.before.before.before.before.before.before.before.before.before.before.before.before.before.before.before.before.before.requires.1 c.before.before.before.before.before.before.before.before.before.before.before.before.before.before.before.before.before.before.before.before.before.before.before.before.before.kind.ensures.is c.before.before.before.before.before.before.before.before.before.before.before.before.before.before.before.before.before.before.before.before.before.before.before.before.if1.false) c.before.before.before.before.before.before.resolve-node.ensures
 
 idents-in-compr-sub-kids : (t : ℕ) → idents-in-compr-lts.Need-overflow-sub-kids (idents-in-compr-calls t) (idents-in-compr-at t) idents-in-compr.Post
-idents-in-compr-sub-kids t c = omega (arith, x-long c.before.before.before.before.requires.1.one)
+idents-in-compr-sub-kids t c = omega (arith, x_long c.before.before.before.before.requires.1.one)
 
 idents-in-compr-part-kids-start : (t : ℕ) → idents-in-compr-lts.Need-slice-bounds-kids-start (idents-in-compr-calls t) (idents-in-compr-at t) idents-in-compr.Post
-idents-in-compr-part-kids-start t c = omega (arith, x-long c.before.before.before.before.requires.1.one)
+idents-in-compr-part-kids-start t c = omega (arith, x_long c.before.before.before.before.requires.1.one)
 
 idents-in-compr-part-kids-end : (t : ℕ) → idents-in-compr-lts.Need-slice-bounds-kids-end (idents-in-compr-calls t) (idents-in-compr-at t) idents-in-compr.Post
-idents-in-compr-part-kids-end t c = omega (arith, x-long c.before.before.before.before.requires.1.one)
+idents-in-compr-part-kids-end t c = omega (arith, x_long c.before.before.before.before.requires.1.one)
 
 idents-in-compr-size-requires : (t : ℕ) → idents-in-compr-lts.Need-size-requires (idents-in-compr-calls t) (idents-in-compr-at t) idents-in-compr.Post
 idents-in-compr-size-requires t c κs = search rules
@@ -510,44 +510,44 @@ idents-in-compr-mul-b : (t : ℕ) → idents-in-compr-lts.Need-overflow-mul-b (i
 idents-in-compr-mul-b t c = search rules
 
 idents-in-compr-sub-resolve-node : (t : ℕ) → idents-in-compr-lts.Need-overflow-sub-resolve-node (idents-in-compr-calls t) (idents-in-compr-at t) idents-in-compr.Post
-idents-in-compr-sub-resolve-node t c = omega (arith, f-inside c.before.before.before.before.before.before.requires.1.one (q-some c.before.before.before.before.before.before.requires.1) _ (ap (λ (n : ℕ). 8 * n) c.size.ensures.is), x-kids-length c.before.before.before.before.before.before.requires.1.one)
+idents-in-compr-sub-resolve-node t c = omega (arith, f_inside c.before.before.before.before.before.before.requires.1.one (q_some c.before.before.before.before.before.before.requires.1) _ (ap (λ (n : ℕ). 8 * n) c.size.ensures.is), x_kids_length c.before.before.before.before.before.before.requires.1.one)
 
 idents-in-compr-part-resolve-node-start :
     (t : ℕ) → idents-in-compr-lts.Need-slice-bounds-resolve-node-start (idents-in-compr-calls t) (idents-in-compr-at t) idents-in-compr.Post
-idents-in-compr-part-resolve-node-start t c = omega (arith, f-inside c.before.before.before.before.before.before.requires.1.one (q-some c.before.before.before.before.before.before.requires.1) _ (ap (λ (n : ℕ). 8 * n) c.size.ensures.is), x-kids-length c.before.before.before.before.before.before.requires.1.one)
+idents-in-compr-part-resolve-node-start t c = omega (arith, f_inside c.before.before.before.before.before.before.requires.1.one (q_some c.before.before.before.before.before.before.requires.1) _ (ap (λ (n : ℕ). 8 * n) c.size.ensures.is), x_kids_length c.before.before.before.before.before.before.requires.1.one)
 
 idents-in-compr-part-resolve-node-end : (t : ℕ) → idents-in-compr-lts.Need-slice-bounds-resolve-node-end (idents-in-compr-calls t) (idents-in-compr-at t) idents-in-compr.Post
-idents-in-compr-part-resolve-node-end t c = omega (arith, f-inside c.before.before.before.before.before.before.requires.1.one (q-some c.before.before.before.before.before.before.requires.1) _ (ap (λ (n : ℕ). 8 * n) c.size.ensures.is), x-kids-length c.before.before.before.before.before.before.requires.1.one)
+idents-in-compr-part-resolve-node-end t c = omega (arith, f_inside c.before.before.before.before.before.before.requires.1.one (q_some c.before.before.before.before.before.before.requires.1) _ (ap (λ (n : ℕ). 8 * n) c.size.ensures.is), x_kids_length c.before.before.before.before.before.before.requires.1.one)
 
 idents-in-compr-add-resolve-node : (t : ℕ) → idents-in-compr-lts.Need-overflow-add-resolve-node (idents-in-compr-calls t) (idents-in-compr-at t) idents-in-compr.Post
 idents-in-compr-add-resolve-node t c = omega (arith, c.before.before.before.before.before.before.before.requires.1.one.pre.within)
 
 idents-in-compr-resolve-node-requires : (t : ℕ) → idents-in-compr-lts.Need-resolve-node-requires (idents-in-compr-calls t) (idents-in-compr-at t) idents-in-compr.Post
-idents-in-compr-resolve-node-requires t c κs = (omega (arith, c.before.before.before.before.before.before.before.before.before.before.requires.0, f-inside c.before.before.before.before.before.before.before.before.before.before.requires.1.one (q-some c.before.before.before.before.before.before.before.before.before.before.requires.1) _ (ap (λ (n : ℕ). 8 * n) c.before.before.before.before.size.ensures.is), f-front-length c.before.before.before.before.before.before.before.before.before.before.requires.1.one (q-some c.before.before.before.before.before.before.before.before.before.before.requires.1) _ (ap (λ (n : ℕ). 8 * n) c.before.before.before.before.size.ensures.is)), q-first-pre c.before.before.before.before.before.before.before.before.before.before.requires.1 _ (ap (λ (n : ℕ). 8 * n) c.before.before.before.before.size.ensures.is))
+idents-in-compr-resolve-node-requires t c κs = (omega (arith, c.before.before.before.before.before.before.before.before.before.before.requires.0, f_inside c.before.before.before.before.before.before.before.before.before.before.requires.1.one (q_some c.before.before.before.before.before.before.before.before.before.before.requires.1) _ (ap (λ (n : ℕ). 8 * n) c.before.before.before.before.size.ensures.is), f_front-length c.before.before.before.before.before.before.before.before.before.before.requires.1.one (q_some c.before.before.before.before.before.before.before.before.before.before.requires.1) _ (ap (λ (n : ℕ). 8 * n) c.before.before.before.before.size.ensures.is)), q_first_pre c.before.before.before.before.before.before.before.before.before.before.requires.1 _ (ap (λ (n : ℕ). 8 * n) c.before.before.before.before.size.ensures.is))
 
 idents-in-compr-add-add-compr : (t : ℕ) → idents-in-compr-lts.Need-overflow-add-add-compr (idents-in-compr-calls t) (idents-in-compr-at t) idents-in-compr.Post
 idents-in-compr-add-add-compr t c = omega (arith, c.before.before.before.before.before.before.before.before.before.before.before.before.before.before.before.before.before.requires.1.one.pre.within)
 
 idents-in-compr-add-compr-requires : (t : ℕ) → idents-in-compr-lts.Need-add-compr-requires (idents-in-compr-calls t) (idents-in-compr-at t) idents-in-compr.Post
-idents-in-compr-add-compr-requires t c κs = q-compr-pre c.before.before.before.before.before.before.before.before.before.before.before.before.before.before.before.before.before.before.before.before.requires.1 _ (ap (λ (n : ℕ). 8 * n) c.before.before.before.before.before.before.before.before.before.before.before.before.before.before.size.ensures.is) c.before.before.before.before.before.before.before.before.before.resolve-node.ensures (record { binds = c.before.before.before.before.before.before.before.before.before.resolve-node.auto.1.1.1.1.0; w = c.before.before.before.before.before.before.before.before.before.resolve-node.auto.1.1.1.1.1.0; t = c.before.before.before.before.before.before.before.before.before.resolve-node.auto.1.1.1.1.1.1.0 })
+idents-in-compr-add-compr-requires t c κs = q_compr_pre c.before.before.before.before.before.before.before.before.before.before.before.before.before.before.before.before.before.before.before.before.requires.1 _ (ap (λ (n : ℕ). 8 * n) c.before.before.before.before.before.before.before.before.before.before.before.before.before.before.size.ensures.is) c.before.before.before.before.before.before.before.before.before.resolve-node.ensures (record { binds = c.before.before.before.before.before.before.before.before.before.resolve-node.auto.1.1.1.1.0; w = c.before.before.before.before.before.before.before.before.before.resolve-node.auto.1.1.1.1.1.0; t = c.before.before.before.before.before.before.before.before.before.resolve-node.auto.1.1.1.1.1.1.0 })
 
 idents-in-compr-sub-each : (t : ℕ) → idents-in-compr-lts.Need-overflow-sub-each (idents-in-compr-calls t) (idents-in-compr-at t) idents-in-compr.Post
-idents-in-compr-sub-each t c = omega (arith, f-inside c.before.before.before.before.before.before.before.before.before.before.before.before.before.before.before.before.before.before.before.before.before.before.before.before.before.before.before.requires.1.one (q-some c.before.before.before.before.before.before.before.before.before.before.before.before.before.before.before.before.before.before.before.before.before.before.before.before.before.before.before.requires.1) _ (ap (λ (n : ℕ). 8 * n) c.before.before.before.before.before.before.before.before.before.before.before.before.before.before.before.before.before.before.before.before.before.size.ensures.is), x-kids-length c.before.before.before.before.before.before.before.before.before.before.before.before.before.before.before.before.before.before.before.before.before.before.before.before.before.before.before.requires.1.one)
+idents-in-compr-sub-each t c = omega (arith, f_inside c.before.before.before.before.before.before.before.before.before.before.before.before.before.before.before.before.before.before.before.before.before.before.before.before.before.before.before.requires.1.one (q_some c.before.before.before.before.before.before.before.before.before.before.before.before.before.before.before.before.before.before.before.before.before.before.before.before.before.before.before.requires.1) _ (ap (λ (n : ℕ). 8 * n) c.before.before.before.before.before.before.before.before.before.before.before.before.before.before.before.before.before.before.before.before.before.size.ensures.is), x_kids_length c.before.before.before.before.before.before.before.before.before.before.before.before.before.before.before.before.before.before.before.before.before.before.before.before.before.before.before.requires.1.one)
 
 idents-in-compr-part-each-start : (t : ℕ) → idents-in-compr-lts.Need-slice-bounds-each-start (idents-in-compr-calls t) (idents-in-compr-at t) idents-in-compr.Post
-idents-in-compr-part-each-start t c = omega (arith, f-inside c.before.before.before.before.before.before.before.before.before.before.before.before.before.before.before.before.before.before.before.before.before.before.before.before.before.before.before.requires.1.one (q-some c.before.before.before.before.before.before.before.before.before.before.before.before.before.before.before.before.before.before.before.before.before.before.before.before.before.before.before.requires.1) _ (ap (λ (n : ℕ). 8 * n) c.before.before.before.before.before.before.before.before.before.before.before.before.before.before.before.before.before.before.before.before.before.size.ensures.is), x-kids-length c.before.before.before.before.before.before.before.before.before.before.before.before.before.before.before.before.before.before.before.before.before.before.before.before.before.before.before.requires.1.one)
+idents-in-compr-part-each-start t c = omega (arith, f_inside c.before.before.before.before.before.before.before.before.before.before.before.before.before.before.before.before.before.before.before.before.before.before.before.before.before.before.before.requires.1.one (q_some c.before.before.before.before.before.before.before.before.before.before.before.before.before.before.before.before.before.before.before.before.before.before.before.before.before.before.before.requires.1) _ (ap (λ (n : ℕ). 8 * n) c.before.before.before.before.before.before.before.before.before.before.before.before.before.before.before.before.before.before.before.before.before.size.ensures.is), x_kids_length c.before.before.before.before.before.before.before.before.before.before.before.before.before.before.before.before.before.before.before.before.before.before.before.before.before.before.before.requires.1.one)
 
 idents-in-compr-part-each-end : (t : ℕ) → idents-in-compr-lts.Need-slice-bounds-each-end (idents-in-compr-calls t) (idents-in-compr-at t) idents-in-compr.Post
-idents-in-compr-part-each-end t c = omega (arith, f-inside c.before.before.before.before.before.before.before.before.before.before.before.before.before.before.before.before.before.before.before.before.before.before.before.before.before.before.before.requires.1.one (q-some c.before.before.before.before.before.before.before.before.before.before.before.before.before.before.before.before.before.before.before.before.before.before.before.before.before.before.before.requires.1) _ (ap (λ (n : ℕ). 8 * n) c.before.before.before.before.before.before.before.before.before.before.before.before.before.before.before.before.before.before.before.before.before.size.ensures.is), x-kids-length c.before.before.before.before.before.before.before.before.before.before.before.before.before.before.before.before.before.before.before.before.before.before.before.before.before.before.before.requires.1.one)
+idents-in-compr-part-each-end t c = omega (arith, f_inside c.before.before.before.before.before.before.before.before.before.before.before.before.before.before.before.before.before.before.before.before.before.before.before.before.before.before.before.requires.1.one (q_some c.before.before.before.before.before.before.before.before.before.before.before.before.before.before.before.before.before.before.before.before.before.before.before.before.before.before.before.requires.1) _ (ap (λ (n : ℕ). 8 * n) c.before.before.before.before.before.before.before.before.before.before.before.before.before.before.before.before.before.before.before.before.before.size.ensures.is), x_kids_length c.before.before.before.before.before.before.before.before.before.before.before.before.before.before.before.before.before.before.before.before.before.before.before.before.before.before.before.requires.1.one)
 
 idents-in-compr-add-each : (t : ℕ) → idents-in-compr-lts.Need-overflow-add-each (idents-in-compr-calls t) (idents-in-compr-at t) idents-in-compr.Post
 idents-in-compr-add-each t c = omega (arith, c.before.before.before.before.before.before.before.before.before.before.before.before.before.before.before.before.before.before.before.before.before.before.before.before.before.before.before.before.requires.1.one.pre.within)
 
 idents-in-compr-add-each-2 : (t : ℕ) → idents-in-compr-lts.Need-overflow-add-each-2 (idents-in-compr-calls t) (idents-in-compr-at t) idents-in-compr.Post
-idents-in-compr-add-each-2 t c = omega (arith, f-inside c.before.before.before.before.before.before.before.before.before.before.before.before.before.before.before.before.before.before.before.before.before.before.before.before.before.before.before.before.requires.1.one (q-some c.before.before.before.before.before.before.before.before.before.before.before.before.before.before.before.before.before.before.before.before.before.before.before.before.before.before.before.before.requires.1) _ (ap (λ (n : ℕ). 8 * n) c.before.before.before.before.before.before.before.before.before.before.before.before.before.before.before.before.before.before.before.before.before.before.size.ensures.is), c.before.before.before.before.before.before.before.before.before.before.before.before.before.before.before.before.before.before.before.before.before.before.before.before.before.before.before.before.requires.1.one.pre.within)
+idents-in-compr-add-each-2 t c = omega (arith, f_inside c.before.before.before.before.before.before.before.before.before.before.before.before.before.before.before.before.before.before.before.before.before.before.before.before.before.before.before.before.requires.1.one (q_some c.before.before.before.before.before.before.before.before.before.before.before.before.before.before.before.before.before.before.before.before.before.before.before.before.before.before.before.before.requires.1) _ (ap (λ (n : ℕ). 8 * n) c.before.before.before.before.before.before.before.before.before.before.before.before.before.before.before.before.before.before.before.before.before.before.size.ensures.is), c.before.before.before.before.before.before.before.before.before.before.before.before.before.before.before.before.before.before.before.before.before.before.before.before.before.before.before.before.requires.1.one.pre.within)
 
 idents-in-compr-each-requires : (t : ℕ) → idents-in-compr-lts.Need-each-requires (idents-in-compr-calls t) (idents-in-compr-at t) idents-in-compr.Post
-idents-in-compr-each-requires t c κs = (omega (arith, c.before.before.before.before.before.before.before.before.before.before.before.before.before.before.before.before.before.before.before.before.before.before.before.before.before.before.before.before.before.before.before.requires.0, f-inside c.before.before.before.before.before.before.before.before.before.before.before.before.before.before.before.before.before.before.before.before.before.before.before.before.before.before.before.before.before.before.before.requires.1.one (q-some c.before.before.before.before.before.before.before.before.before.before.before.before.before.before.before.before.before.before.before.before.before.before.before.before.before.before.before.before.before.before.before.requires.1) _ (ap (λ (n : ℕ). 8 * n) c.before.before.before.before.before.before.before.before.before.before.before.before.before.before.before.before.before.before.before.before.before.before.before.before.before.size.ensures.is), f-back-length c.before.before.before.before.before.before.before.before.before.before.before.before.before.before.before.before.before.before.before.before.before.before.before.before.before.before.before.before.before.before.before.requires.1.one (q-some c.before.before.before.before.before.before.before.before.before.before.before.before.before.before.before.before.before.before.before.before.before.before.before.before.before.before.before.before.before.before.before.requires.1) _ (ap (λ (n : ℕ). 8 * n) c.before.before.before.before.before.before.before.before.before.before.before.before.before.before.before.before.before.before.before.before.before.before.before.before.before.size.ensures.is)), q-rest-pre c.before.before.before.before.before.before.before.before.before.before.before.before.before.before.before.before.before.before.before.before.before.before.before.before.before.before.before.before.before.before.before.requires.1 _ (ap (λ (n : ℕ). 8 * n) c.before.before.before.before.before.before.before.before.before.before.before.before.before.before.before.before.before.before.before.before.before.before.before.before.before.size.ensures.is) c.before.before.before.before.before.before.before.before.before.before.before.before.before.before.before.before.before.before.before.before.resolve-node.ensures c.before.before.before.before.before.before.before.before.before.before.add-compr.ensures (record { binds = c.before.before.before.before.before.before.before.before.before.before.before.before.before.before.before.before.before.before.before.before.resolve-node.auto.1.1.1.1.0; w = c.before.before.before.before.before.before.before.before.before.before.before.before.before.before.before.before.before.before.before.before.resolve-node.auto.1.1.1.1.1.0; t = c.before.before.before.before.before.before.before.before.before.before.before.before.before.before.before.before.before.before.before.before.resolve-node.auto.1.1.1.1.1.1.0 }) (record { binds = c.before.before.before.before.before.before.before.before.before.before.add-compr.auto.1.1.1.0; w = c.before.before.before.before.before.before.before.before.before.before.add-compr.auto.1.1.1.1.0; t = c.before.before.before.before.before.before.before.before.before.before.add-compr.auto.1.1.1.1.1.0 }))
+idents-in-compr-each-requires t c κs = (omega (arith, c.before.before.before.before.before.before.before.before.before.before.before.before.before.before.before.before.before.before.before.before.before.before.before.before.before.before.before.before.before.before.before.requires.0, f_inside c.before.before.before.before.before.before.before.before.before.before.before.before.before.before.before.before.before.before.before.before.before.before.before.before.before.before.before.before.before.before.before.requires.1.one (q_some c.before.before.before.before.before.before.before.before.before.before.before.before.before.before.before.before.before.before.before.before.before.before.before.before.before.before.before.before.before.before.before.requires.1) _ (ap (λ (n : ℕ). 8 * n) c.before.before.before.before.before.before.before.before.before.before.before.before.before.before.before.before.before.before.before.before.before.before.before.before.before.size.ensures.is), f_back-length c.before.before.before.before.before.before.before.before.before.before.before.before.before.before.before.before.before.before.before.before.before.before.before.before.before.before.before.before.before.before.before.requires.1.one (q_some c.before.before.before.before.before.before.before.before.before.before.before.before.before.before.before.before.before.before.before.before.before.before.before.before.before.before.before.before.before.before.before.requires.1) _ (ap (λ (n : ℕ). 8 * n) c.before.before.before.before.before.before.before.before.before.before.before.before.before.before.before.before.before.before.before.before.before.before.before.before.before.size.ensures.is)), q_rest_pre c.before.before.before.before.before.before.before.before.before.before.before.before.before.before.before.before.before.before.before.before.before.before.before.before.before.before.before.before.before.before.before.requires.1 _ (ap (λ (n : ℕ). 8 * n) c.before.before.before.before.before.before.before.before.before.before.before.before.before.before.before.before.before.before.before.before.before.before.before.before.before.size.ensures.is) c.before.before.before.before.before.before.before.before.before.before.before.before.before.before.before.before.before.before.before.before.resolve-node.ensures c.before.before.before.before.before.before.before.before.before.before.add-compr.ensures (record { binds = c.before.before.before.before.before.before.before.before.before.before.before.before.before.before.before.before.before.before.before.before.resolve-node.auto.1.1.1.1.0; w = c.before.before.before.before.before.before.before.before.before.before.before.before.before.before.before.before.before.before.before.before.resolve-node.auto.1.1.1.1.1.0; t = c.before.before.before.before.before.before.before.before.before.before.before.before.before.before.before.before.before.before.before.before.resolve-node.auto.1.1.1.1.1.1.0 }) (record { binds = c.before.before.before.before.before.before.before.before.before.before.add-compr.auto.1.1.1.0; w = c.before.before.before.before.before.before.before.before.before.before.add-compr.auto.1.1.1.1.0; t = c.before.before.before.before.before.before.before.before.before.before.add-compr.auto.1.1.1.1.1.0 }))
 
 idents-in-compr-same-length : (t : ℕ) → idents-in-compr-lts.Need-same-length (idents-in-compr-calls t) (idents-in-compr-at t) idents-in-compr.Post
 idents-in-compr-same-length t c = c.before.before.before.before.before.before.before.each.auto.1.1.1.1.0 ∙ c.before.before.before.before.before.before.before.before.before.before.before.before.before.before.before.before.before.before.add-compr.auto.1.1.1.0 ∙ c.before.before.before.before.before.before.before.before.before.before.before.before.before.before.before.before.before.before.before.before.before.before.before.before.before.before.before.before.resolve-node.auto.1.1.1.1.0
@@ -559,10 +559,10 @@ idents-in-compr-same-length-3 : (t : ℕ) → idents-in-compr-lts.Need-same-leng
 idents-in-compr-same-length-3 t c = c.before.before.before.before.before.before.before.each.auto.1.1.1.1.1.1.0 ∙ c.before.before.before.before.before.before.before.before.before.before.before.before.before.before.before.before.before.before.add-compr.auto.1.1.1.1.1.0 ∙ c.before.before.before.before.before.before.before.before.before.before.before.before.before.before.before.before.before.before.before.before.before.before.before.before.before.before.before.before.resolve-node.auto.1.1.1.1.1.1.0
 
 idents-in-compr-returns : (t : ℕ) → idents-in-compr-lts.Need-returns (idents-in-compr-calls t) (idents-in-compr-at t) idents-in-compr.Post
-idents-in-compr-returns t c = q-full c.before.before.before.before.before.before.before.before.before.before.before.before.before.before.before.before.before.before.before.before.before.before.before.before.before.before.before.before.before.before.before.before.before.before.before.before.before.before.before.requires.1 _ (ap (λ (n : ℕ). 8 * n) c.before.before.before.before.before.before.before.before.before.before.before.before.before.before.before.before.before.before.before.before.before.before.before.before.before.before.before.before.before.before.before.before.before.size.ensures.is) c.before.before.before.before.before.before.before.before.before.before.before.before.before.before.before.before.before.before.before.before.before.before.before.before.before.before.before.before.resolve-node.ensures c.before.before.before.before.before.before.before.before.before.before.before.before.before.before.before.before.before.before.add-compr.ensures c.before.before.before.before.before.before.before.each.ensures c.if1.true
+idents-in-compr-returns t c = q_full c.before.before.before.before.before.before.before.before.before.before.before.before.before.before.before.before.before.before.before.before.before.before.before.before.before.before.before.before.before.before.before.before.before.before.before.before.before.before.before.requires.1 _ (ap (λ (n : ℕ). 8 * n) c.before.before.before.before.before.before.before.before.before.before.before.before.before.before.before.before.before.before.before.before.before.before.before.before.before.before.before.before.before.before.before.before.before.size.ensures.is) c.before.before.before.before.before.before.before.before.before.before.before.before.before.before.before.before.before.before.before.before.before.before.before.before.before.before.before.before.resolve-node.ensures c.before.before.before.before.before.before.before.before.before.before.before.before.before.before.before.before.before.before.add-compr.ensures c.before.before.before.before.before.before.before.each.ensures c.if1.true
 
 idents-in-compr-unscope-requires : (t : ℕ) → idents-in-compr-lts.Need-unscope-requires (idents-in-compr-calls t) (idents-in-compr-at t) idents-in-compr.Post
-idents-in-compr-unscope-requires t c κs = q-close-pre c.before.before.before.before.before.before.before.before.before.before.before.before.before.before.before.before.before.before.before.before.before.before.before.before.before.before.before.before.before.before.before.before.before.before.before.before.before.before.before.before.before.requires.1 _ (ap (λ (n : ℕ). 8 * n) c.before.before.before.before.before.before.before.before.before.before.before.before.before.before.before.before.before.before.before.before.before.before.before.before.before.before.before.before.before.before.before.before.before.before.before.size.ensures.is) c.before.before.before.before.before.before.before.before.before.before.before.before.before.before.before.before.before.before.before.before.before.before.before.before.before.before.before.before.before.before.resolve-node.ensures c.before.before.before.before.before.before.before.before.before.before.before.before.before.before.before.before.before.before.before.before.add-compr.ensures c.before.before.before.before.before.before.before.before.before.each.ensures c.before.before.if1.false (record { binds = c.before.before.before.before.before.before.before.before.before.before.before.before.before.before.before.before.before.before.before.before.before.before.before.before.before.before.before.before.before.before.resolve-node.auto.1.1.1.1.0; w = c.before.before.before.before.before.before.before.before.before.before.before.before.before.before.before.before.before.before.before.before.before.before.before.before.before.before.before.before.before.before.resolve-node.auto.1.1.1.1.1.0; t = c.before.before.before.before.before.before.before.before.before.before.before.before.before.before.before.before.before.before.before.before.before.before.before.before.before.before.before.before.before.before.resolve-node.auto.1.1.1.1.1.1.0 }) (record { binds = c.before.before.before.before.before.before.before.before.before.before.before.before.before.before.before.before.before.before.before.before.add-compr.auto.1.1.1.0; w = c.before.before.before.before.before.before.before.before.before.before.before.before.before.before.before.before.before.before.before.before.add-compr.auto.1.1.1.1.0; t = c.before.before.before.before.before.before.before.before.before.before.before.before.before.before.before.before.before.before.before.before.add-compr.auto.1.1.1.1.1.0 }) (record { binds = c.before.before.before.before.before.before.before.before.before.each.auto.1.1.1.1.0; w = c.before.before.before.before.before.before.before.before.before.each.auto.1.1.1.1.1.0; t = c.before.before.before.before.before.before.before.before.before.each.auto.1.1.1.1.1.1.0 })
+idents-in-compr-unscope-requires t c κs = q_close_pre c.before.before.before.before.before.before.before.before.before.before.before.before.before.before.before.before.before.before.before.before.before.before.before.before.before.before.before.before.before.before.before.before.before.before.before.before.before.before.before.before.before.requires.1 _ (ap (λ (n : ℕ). 8 * n) c.before.before.before.before.before.before.before.before.before.before.before.before.before.before.before.before.before.before.before.before.before.before.before.before.before.before.before.before.before.before.before.before.before.before.before.size.ensures.is) c.before.before.before.before.before.before.before.before.before.before.before.before.before.before.before.before.before.before.before.before.before.before.before.before.before.before.before.before.before.before.resolve-node.ensures c.before.before.before.before.before.before.before.before.before.before.before.before.before.before.before.before.before.before.before.before.add-compr.ensures c.before.before.before.before.before.before.before.before.before.each.ensures c.before.before.if1.false (record { binds = c.before.before.before.before.before.before.before.before.before.before.before.before.before.before.before.before.before.before.before.before.before.before.before.before.before.before.before.before.before.before.resolve-node.auto.1.1.1.1.0; w = c.before.before.before.before.before.before.before.before.before.before.before.before.before.before.before.before.before.before.before.before.before.before.before.before.before.before.before.before.before.before.resolve-node.auto.1.1.1.1.1.0; t = c.before.before.before.before.before.before.before.before.before.before.before.before.before.before.before.before.before.before.before.before.before.before.before.before.before.before.before.before.before.before.resolve-node.auto.1.1.1.1.1.1.0 }) (record { binds = c.before.before.before.before.before.before.before.before.before.before.before.before.before.before.before.before.before.before.before.before.add-compr.auto.1.1.1.0; w = c.before.before.before.before.before.before.before.before.before.before.before.before.before.before.before.before.before.before.before.before.add-compr.auto.1.1.1.1.0; t = c.before.before.before.before.before.before.before.before.before.before.before.before.before.before.before.before.before.before.before.before.add-compr.auto.1.1.1.1.1.0 }) (record { binds = c.before.before.before.before.before.before.before.before.before.each.auto.1.1.1.1.0; w = c.before.before.before.before.before.before.before.before.before.each.auto.1.1.1.1.1.0; t = c.before.before.before.before.before.before.before.before.before.each.auto.1.1.1.1.1.1.0 })
 
 idents-in-compr-same-length-4 : (t : ℕ) → idents-in-compr-lts.Need-same-length-4 (idents-in-compr-calls t) (idents-in-compr-at t) idents-in-compr.Post
 idents-in-compr-same-length-4 t c = c.before.before.before.before.before.before.before.before.before.before.before.before.each.auto.1.1.1.1.0 ∙ c.before.before.before.before.before.before.before.before.before.before.before.before.before.before.before.before.before.before.before.before.before.before.before.add-compr.auto.1.1.1.0 ∙ c.before.before.before.before.before.before.before.before.before.before.before.before.before.before.before.before.before.before.before.before.before.before.before.before.before.before.before.before.before.before.before.before.before.resolve-node.auto.1.1.1.1.0
@@ -574,61 +574,61 @@ idents-in-compr-same-length-6 : (t : ℕ) → idents-in-compr-lts.Need-same-leng
 idents-in-compr-same-length-6 t c = c.before.before.unscope.auto.1.0 ∙ c.before.before.before.before.before.before.before.before.before.before.before.before.each.auto.1.1.1.1.1.1.0 ∙ c.before.before.before.before.before.before.before.before.before.before.before.before.before.before.before.before.before.before.before.before.before.before.before.add-compr.auto.1.1.1.1.1.0 ∙ c.before.before.before.before.before.before.before.before.before.before.before.before.before.before.before.before.before.before.before.before.before.before.before.before.before.before.before.before.before.before.before.before.before.resolve-node.auto.1.1.1.1.1.1.0
 
 idents-in-compr-returns-2 : (t : ℕ) → idents-in-compr-lts.Need-returns-2 (idents-in-compr-calls t) (idents-in-compr-at t) idents-in-compr.Post
-idents-in-compr-returns-2 t c = q-done c.before.before.before.before.before.before.before.before.before.before.before.before.before.before.before.before.before.before.before.before.before.before.before.before.before.before.before.before.before.before.before.before.before.before.before.before.before.before.before.before.before.before.before.before.requires.1 _ (ap (λ (n : ℕ). 8 * n) c.before.before.before.before.before.before.before.before.before.before.before.before.before.before.before.before.before.before.before.before.before.before.before.before.before.before.before.before.before.before.before.before.before.before.before.before.before.before.size.ensures.is) c.before.before.before.before.before.before.before.before.before.before.before.before.before.before.before.before.before.before.before.before.before.before.before.before.before.before.before.before.before.before.before.before.before.resolve-node.ensures c.before.before.before.before.before.before.before.before.before.before.before.before.before.before.before.before.before.before.before.before.before.before.before.add-compr.ensures c.before.before.before.before.before.before.before.before.before.before.before.before.each.ensures c.before.before.before.before.before.if1.false c.before.before.unscope.ensures
+idents-in-compr-returns-2 t c = q_done c.before.before.before.before.before.before.before.before.before.before.before.before.before.before.before.before.before.before.before.before.before.before.before.before.before.before.before.before.before.before.before.before.before.before.before.before.before.before.before.before.before.before.before.before.requires.1 _ (ap (λ (n : ℕ). 8 * n) c.before.before.before.before.before.before.before.before.before.before.before.before.before.before.before.before.before.before.before.before.before.before.before.before.before.before.before.before.before.before.before.before.before.before.before.before.before.before.size.ensures.is) c.before.before.before.before.before.before.before.before.before.before.before.before.before.before.before.before.before.before.before.before.before.before.before.before.before.before.before.before.before.before.before.before.before.resolve-node.ensures c.before.before.before.before.before.before.before.before.before.before.before.before.before.before.before.before.before.before.before.before.before.before.before.add-compr.ensures c.before.before.before.before.before.before.before.before.before.before.before.before.each.ensures c.before.before.before.before.before.if1.false c.before.before.unscope.ensures
 
 idents-in-def-value-requires : (t : ℕ) → idents-in-def-lts.Need-value-requires (idents-in-def-calls t) (idents-in-def-at t) idents-in-def.Post
 idents-in-def-value-requires t c κs = search rules
 
 idents-in-def-sub-kids : (t : ℕ) → idents-in-def-lts.Need-overflow-sub-kids (idents-in-def-calls t) (idents-in-def-at t) idents-in-def.Post
-idents-in-def-sub-kids t c = omega (arith, x-long c.before.before.before.before.before.requires.1.one)
+idents-in-def-sub-kids t c = omega (arith, x_long c.before.before.before.before.before.requires.1.one)
 
 idents-in-def-part-kids-start : (t : ℕ) → idents-in-def-lts.Need-slice-bounds-kids-start (idents-in-def-calls t) (idents-in-def-at t) idents-in-def.Post
-idents-in-def-part-kids-start t c = omega (arith, x-long c.before.before.before.before.before.requires.1.one)
+idents-in-def-part-kids-start t c = omega (arith, x_long c.before.before.before.before.before.requires.1.one)
 
 idents-in-def-part-kids-end : (t : ℕ) → idents-in-def-lts.Need-slice-bounds-kids-end (idents-in-def-calls t) (idents-in-def-at t) idents-in-def.Post
-idents-in-def-part-kids-end t c = omega (arith, x-long c.before.before.before.before.before.requires.1.one)
+idents-in-def-part-kids-end t c = omega (arith, x_long c.before.before.before.before.before.requires.1.one)
 
 idents-in-def-last-requires : (t : ℕ) → idents-in-def-lts.Need-last-requires (idents-in-def-calls t) (idents-in-def-at t) idents-in-def.Post
-idents-in-def-last-requires t c κs = d-last-pre c.before.before.before.before.before.before.requires.1
+idents-in-def-last-requires t c κs = d_last_pre c.before.before.before.before.before.before.requires.1
 
 idents-in-def-sub-each : (t : ℕ) → idents-in-def-lts.Need-overflow-sub-each (idents-in-def-calls t) (idents-in-def-at t) idents-in-def.Post
-idents-in-def-sub-each t c = omega (arith, d-inside c.before.before.before.before.before.before.before.requires.1 c.last.result c.last.ensures, x-kids-length c.before.before.before.before.before.before.before.requires.1.one)
+idents-in-def-sub-each t c = omega (arith, d_inside c.before.before.before.before.before.before.before.requires.1 c.last.result c.last.ensures, x_kids_length c.before.before.before.before.before.before.before.requires.1.one)
 
 idents-in-def-part-each-start : (t : ℕ) → idents-in-def-lts.Need-slice-bounds-each-start (idents-in-def-calls t) (idents-in-def-at t) idents-in-def.Post
-idents-in-def-part-each-start t c = omega (arith, d-inside c.before.before.before.before.before.before.before.requires.1 c.last.result c.last.ensures, x-kids-length c.before.before.before.before.before.before.before.requires.1.one)
+idents-in-def-part-each-start t c = omega (arith, d_inside c.before.before.before.before.before.before.before.requires.1 c.last.result c.last.ensures, x_kids_length c.before.before.before.before.before.before.before.requires.1.one)
 
 idents-in-def-part-each-end : (t : ℕ) → idents-in-def-lts.Need-slice-bounds-each-end (idents-in-def-calls t) (idents-in-def-at t) idents-in-def.Post
-idents-in-def-part-each-end t c = omega (arith, d-inside c.before.before.before.before.before.before.before.requires.1 c.last.result c.last.ensures, x-kids-length c.before.before.before.before.before.before.before.requires.1.one)
+idents-in-def-part-each-end t c = omega (arith, d_inside c.before.before.before.before.before.before.before.requires.1 c.last.result c.last.ensures, x_kids_length c.before.before.before.before.before.before.before.requires.1.one)
 
 idents-in-def-add-each : (t : ℕ) → idents-in-def-lts.Need-overflow-add-each (idents-in-def-calls t) (idents-in-def-at t) idents-in-def.Post
 idents-in-def-add-each t c = omega (arith, c.before.before.before.before.before.before.before.before.requires.1.one.pre.within)
 
 idents-in-def-each-requires : (t : ℕ) → idents-in-def-lts.Need-each-requires (idents-in-def-calls t) (idents-in-def-at t) idents-in-def.Post
-idents-in-def-each-requires t c κs = (omega (arith, c.before.before.before.before.before.before.before.before.before.before.before.requires.0, d-inside c.before.before.before.before.before.before.before.before.before.before.before.requires.1 c.before.before.before.before.last.result c.before.before.before.before.last.ensures, d-front-length c.before.before.before.before.before.before.before.before.before.before.before.requires.1 c.before.before.before.before.last.result c.before.before.before.before.last.ensures), d-front-pre c.before.before.before.before.before.before.before.before.before.before.before.requires.1 c.before.before.before.before.last.result c.before.before.before.before.last.ensures)
+idents-in-def-each-requires t c κs = (omega (arith, c.before.before.before.before.before.before.before.before.before.before.before.requires.0, d_inside c.before.before.before.before.before.before.before.before.before.before.before.requires.1 c.before.before.before.before.last.result c.before.before.before.before.last.ensures, d_front-length c.before.before.before.before.before.before.before.before.before.before.before.requires.1 c.before.before.before.before.last.result c.before.before.before.before.last.ensures), d_front_pre c.before.before.before.before.before.before.before.before.before.before.before.requires.1 c.before.before.before.before.last.result c.before.before.before.before.last.ensures)
 
 idents-in-def-enter-def-requires : (t : ℕ) → idents-in-def-lts.Need-enter-def-requires (idents-in-def-calls t) (idents-in-def-at t) idents-in-def.Post
-idents-in-def-enter-def-requires t c κs = d-enter-pre c.before.before.before.before.before.before.before.before.before.before.before.before.before.before.before.before.before.before.before.before.requires.1 c.before.before.before.before.before.before.before.before.before.before.before.before.before.last.result c.before.before.before.before.before.before.before.before.before.before.before.before.before.last.ensures c.before.before.before.before.before.before.before.before.before.before.before.before.before.before.before.value.result c.before.before.before.before.before.before.before.before.before.before.before.before.before.before.before.value.ensures.is c.before.before.before.before.before.before.before.before.each.ensures (record { binds = c.before.before.before.before.before.before.before.before.each.auto.1.1.1.1.0; w = c.before.before.before.before.before.before.before.before.each.auto.1.1.1.1.1.0; t = c.before.before.before.before.before.before.before.before.each.auto.1.1.1.1.1.1.0 })
+idents-in-def-enter-def-requires t c κs = d_enter_pre c.before.before.before.before.before.before.before.before.before.before.before.before.before.before.before.before.before.before.before.before.requires.1 c.before.before.before.before.before.before.before.before.before.before.before.before.before.last.result c.before.before.before.before.before.before.before.before.before.before.before.before.before.last.ensures c.before.before.before.before.before.before.before.before.before.before.before.before.before.before.before.value.result c.before.before.before.before.before.before.before.before.before.before.before.before.before.before.before.value.ensures.is c.before.before.before.before.before.before.before.before.each.ensures (record { binds = c.before.before.before.before.before.before.before.before.each.auto.1.1.1.1.0; w = c.before.before.before.before.before.before.before.before.each.auto.1.1.1.1.1.0; t = c.before.before.before.before.before.before.before.before.each.auto.1.1.1.1.1.1.0 })
 
 idents-in-def-sub-resolve-node : (t : ℕ) → idents-in-def-lts.Need-overflow-sub-resolve-node (idents-in-def-calls t) (idents-in-def-at t) idents-in-def.Post
-idents-in-def-sub-resolve-node t c = omega (arith, d-inside c.before.before.before.before.before.before.before.before.before.before.before.before.before.before.before.before.before.before.before.before.before.before.before.requires.1 c.before.before.before.before.before.before.before.before.before.before.before.before.before.before.before.before.last.result c.before.before.before.before.before.before.before.before.before.before.before.before.before.before.before.before.last.ensures, x-kids-length c.before.before.before.before.before.before.before.before.before.before.before.before.before.before.before.before.before.before.before.before.before.before.before.requires.1.one)
+idents-in-def-sub-resolve-node t c = omega (arith, d_inside c.before.before.before.before.before.before.before.before.before.before.before.before.before.before.before.before.before.before.before.before.before.before.before.requires.1 c.before.before.before.before.before.before.before.before.before.before.before.before.before.before.before.before.last.result c.before.before.before.before.before.before.before.before.before.before.before.before.before.before.before.before.last.ensures, x_kids_length c.before.before.before.before.before.before.before.before.before.before.before.before.before.before.before.before.before.before.before.before.before.before.before.requires.1.one)
 
 idents-in-def-part-resolve-node-start : (t : ℕ) → idents-in-def-lts.Need-slice-bounds-resolve-node-start (idents-in-def-calls t) (idents-in-def-at t) idents-in-def.Post
-idents-in-def-part-resolve-node-start t c = omega (arith, d-inside c.before.before.before.before.before.before.before.before.before.before.before.before.before.before.before.before.before.before.before.before.before.before.before.requires.1 c.before.before.before.before.before.before.before.before.before.before.before.before.before.before.before.before.last.result c.before.before.before.before.before.before.before.before.before.before.before.before.before.before.before.before.last.ensures, x-kids-length c.before.before.before.before.before.before.before.before.before.before.before.before.before.before.before.before.before.before.before.before.before.before.before.requires.1.one)
+idents-in-def-part-resolve-node-start t c = omega (arith, d_inside c.before.before.before.before.before.before.before.before.before.before.before.before.before.before.before.before.before.before.before.before.before.before.before.requires.1 c.before.before.before.before.before.before.before.before.before.before.before.before.before.before.before.before.last.result c.before.before.before.before.before.before.before.before.before.before.before.before.before.before.before.before.last.ensures, x_kids_length c.before.before.before.before.before.before.before.before.before.before.before.before.before.before.before.before.before.before.before.before.before.before.before.requires.1.one)
 
 idents-in-def-part-resolve-node-end : (t : ℕ) → idents-in-def-lts.Need-slice-bounds-resolve-node-end (idents-in-def-calls t) (idents-in-def-at t) idents-in-def.Post
-idents-in-def-part-resolve-node-end t c = omega (arith, d-inside c.before.before.before.before.before.before.before.before.before.before.before.before.before.before.before.before.before.before.before.before.before.before.before.requires.1 c.before.before.before.before.before.before.before.before.before.before.before.before.before.before.before.before.last.result c.before.before.before.before.before.before.before.before.before.before.before.before.before.before.before.before.last.ensures, x-kids-length c.before.before.before.before.before.before.before.before.before.before.before.before.before.before.before.before.before.before.before.before.before.before.before.requires.1.one)
+idents-in-def-part-resolve-node-end t c = omega (arith, d_inside c.before.before.before.before.before.before.before.before.before.before.before.before.before.before.before.before.before.before.before.before.before.before.before.requires.1 c.before.before.before.before.before.before.before.before.before.before.before.before.before.before.before.before.last.result c.before.before.before.before.before.before.before.before.before.before.before.before.before.before.before.before.last.ensures, x_kids_length c.before.before.before.before.before.before.before.before.before.before.before.before.before.before.before.before.before.before.before.before.before.before.before.requires.1.one)
 
 idents-in-def-add-resolve-node : (t : ℕ) → idents-in-def-lts.Need-overflow-add-resolve-node (idents-in-def-calls t) (idents-in-def-at t) idents-in-def.Post
 idents-in-def-add-resolve-node t c = omega (arith, c.before.before.before.before.before.before.before.before.before.before.before.before.before.before.before.before.before.before.before.before.before.before.before.before.requires.1.one.pre.within)
 
 idents-in-def-add-resolve-node-2 : (t : ℕ) → idents-in-def-lts.Need-overflow-add-resolve-node-2 (idents-in-def-calls t) (idents-in-def-at t) idents-in-def.Post
-idents-in-def-add-resolve-node-2 t c = omega (arith, d-inside c.before.before.before.before.before.before.before.before.before.before.before.before.before.before.before.before.before.before.before.before.before.before.before.before.requires.1 c.before.before.before.before.before.before.before.before.before.before.before.before.before.before.before.before.before.last.result c.before.before.before.before.before.before.before.before.before.before.before.before.before.before.before.before.before.last.ensures, c.before.before.before.before.before.before.before.before.before.before.before.before.before.before.before.before.before.before.before.before.before.before.before.before.requires.1.one.pre.within)
+idents-in-def-add-resolve-node-2 t c = omega (arith, d_inside c.before.before.before.before.before.before.before.before.before.before.before.before.before.before.before.before.before.before.before.before.before.before.before.before.requires.1 c.before.before.before.before.before.before.before.before.before.before.before.before.before.before.before.before.before.last.result c.before.before.before.before.before.before.before.before.before.before.before.before.before.before.before.before.before.last.ensures, c.before.before.before.before.before.before.before.before.before.before.before.before.before.before.before.before.before.before.before.before.before.before.before.before.requires.1.one.pre.within)
 
 idents-in-def-resolve-node-requires : (t : ℕ) → idents-in-def-lts.Need-resolve-node-requires (idents-in-def-calls t) (idents-in-def-at t) idents-in-def.Post
-idents-in-def-resolve-node-requires t c κs = (omega (arith, c.before.before.before.before.before.before.before.before.before.before.before.before.before.before.before.before.before.before.before.before.before.before.before.before.before.before.before.requires.0, d-inside c.before.before.before.before.before.before.before.before.before.before.before.before.before.before.before.before.before.before.before.before.before.before.before.before.before.before.before.requires.1 c.before.before.before.before.before.before.before.before.before.before.before.before.before.before.before.before.before.before.before.before.last.result c.before.before.before.before.before.before.before.before.before.before.before.before.before.before.before.before.before.before.before.before.last.ensures, d-back-length c.before.before.before.before.before.before.before.before.before.before.before.before.before.before.before.before.before.before.before.before.before.before.before.before.before.before.before.requires.1 c.before.before.before.before.before.before.before.before.before.before.before.before.before.before.before.before.before.before.before.before.last.result c.before.before.before.before.before.before.before.before.before.before.before.before.before.before.before.before.before.before.before.before.last.ensures), d-body-pre c.before.before.before.before.before.before.before.before.before.before.before.before.before.before.before.before.before.before.before.before.before.before.before.before.before.before.before.requires.1 c.before.before.before.before.before.before.before.before.before.before.before.before.before.before.before.before.before.before.before.before.last.result c.before.before.before.before.before.before.before.before.before.before.before.before.before.before.before.before.before.before.before.before.last.ensures c.before.before.before.before.before.before.before.before.before.before.before.before.before.before.before.before.before.before.before.before.before.before.value.result c.before.before.before.before.before.before.before.before.before.before.before.before.before.before.before.before.before.before.before.before.before.before.value.ensures.is c.before.before.before.before.before.before.before.before.before.before.before.before.before.before.before.each.ensures c.before.before.before.before.before.before.enter-def.ensures (record { binds = c.before.before.before.before.before.before.before.before.before.before.before.before.before.before.before.each.auto.1.1.1.1.0; w = c.before.before.before.before.before.before.before.before.before.before.before.before.before.before.before.each.auto.1.1.1.1.1.0; t = c.before.before.before.before.before.before.before.before.before.before.before.before.before.before.before.each.auto.1.1.1.1.1.1.0 }) c.before.before.before.before.before.before.enter-def.auto.1.1.1.0)
+idents-in-def-resolve-node-requires t c κs = (omega (arith, c.before.before.before.before.before.before.before.before.before.before.before.before.before.before.before.before.before.before.before.before.before.before.before.before.before.before.before.requires.0, d_inside c.before.before.before.before.before.before.before.before.before.before.before.before.before.before.before.before.before.before.before.before.before.before.before.before.before.before.before.requires.1 c.before.before.before.before.before.before.before.before.before.before.before.before.before.before.before.before.before.before.before.before.last.result c.before.before.before.before.before.before.before.before.before.before.before.before.before.before.before.before.before.before.before.before.last.ensures, d_back-length c.before.before.before.before.before.before.before.before.before.before.before.before.before.before.before.before.before.before.before.before.before.before.before.before.before.before.before.requires.1 c.before.before.before.before.before.before.before.before.before.before.before.before.before.before.before.before.before.before.before.before.last.result c.before.before.before.before.before.before.before.before.before.before.before.before.before.before.before.before.before.before.before.before.last.ensures), d_body_pre c.before.before.before.before.before.before.before.before.before.before.before.before.before.before.before.before.before.before.before.before.before.before.before.before.before.before.before.requires.1 c.before.before.before.before.before.before.before.before.before.before.before.before.before.before.before.before.before.before.before.before.last.result c.before.before.before.before.before.before.before.before.before.before.before.before.before.before.before.before.before.before.before.before.last.ensures c.before.before.before.before.before.before.before.before.before.before.before.before.before.before.before.before.before.before.before.before.before.before.value.result c.before.before.before.before.before.before.before.before.before.before.before.before.before.before.before.before.before.before.before.before.before.before.value.ensures.is c.before.before.before.before.before.before.before.before.before.before.before.before.before.before.before.each.ensures c.before.before.before.before.before.before.enter-def.ensures (record { binds = c.before.before.before.before.before.before.before.before.before.before.before.before.before.before.before.each.auto.1.1.1.1.0; w = c.before.before.before.before.before.before.before.before.before.before.before.before.before.before.before.each.auto.1.1.1.1.1.0; t = c.before.before.before.before.before.before.before.before.before.before.before.before.before.before.before.each.auto.1.1.1.1.1.1.0 }) c.before.before.before.before.before.before.enter-def.auto.1.1.1.0)
 
 idents-in-def-exit-def-requires : (t : ℕ) → idents-in-def-lts.Need-exit-def-requires (idents-in-def-calls t) (idents-in-def-at t) idents-in-def.Post
-idents-in-def-exit-def-requires t c κs = d-leave-pre c.before.before.before.before.before.before.before.before.before.before.before.before.before.before.before.before.before.before.before.before.before.before.before.before.before.before.before.before.before.before.before.before.before.before.before.before.requires.1 c.before.before.before.before.before.before.before.before.before.before.before.before.before.before.before.before.before.before.before.before.before.before.before.before.before.before.before.before.before.last.result c.before.before.before.before.before.before.before.before.before.before.before.before.before.before.before.before.before.before.before.before.before.before.before.before.before.before.before.before.before.last.ensures c.before.before.before.before.before.before.before.before.before.before.before.before.before.before.before.before.before.before.before.before.before.before.before.before.before.before.before.before.before.before.before.value.result c.before.before.before.before.before.before.before.before.before.before.before.before.before.before.before.before.before.before.before.before.before.before.before.before.before.before.before.before.before.before.before.value.ensures.is c.before.before.before.before.before.before.before.before.before.before.before.before.before.before.before.before.before.before.before.before.before.before.before.before.each.ensures c.before.before.before.before.before.before.before.before.before.before.before.before.before.before.before.enter-def.ensures c.before.before.before.before.before.before.before.before.resolve-node.ensures (record { binds = c.before.before.before.before.before.before.before.before.before.before.before.before.before.before.before.before.before.before.before.before.before.before.before.before.each.auto.1.1.1.1.0; w = c.before.before.before.before.before.before.before.before.before.before.before.before.before.before.before.before.before.before.before.before.before.before.before.before.each.auto.1.1.1.1.1.0; t = c.before.before.before.before.before.before.before.before.before.before.before.before.before.before.before.before.before.before.before.before.before.before.before.before.each.auto.1.1.1.1.1.1.0 }) c.before.before.before.before.before.before.before.before.before.before.before.before.before.before.before.enter-def.auto.1.1.1.0 (record { binds = c.before.before.before.before.before.before.before.before.resolve-node.auto.1.1.1.1.0; w = c.before.before.before.before.before.before.before.before.resolve-node.auto.1.1.1.1.1.0; t = c.before.before.before.before.before.before.before.before.resolve-node.auto.1.1.1.1.1.1.0 })
+idents-in-def-exit-def-requires t c κs = d_leave_pre c.before.before.before.before.before.before.before.before.before.before.before.before.before.before.before.before.before.before.before.before.before.before.before.before.before.before.before.before.before.before.before.before.before.before.before.before.requires.1 c.before.before.before.before.before.before.before.before.before.before.before.before.before.before.before.before.before.before.before.before.before.before.before.before.before.before.before.before.before.last.result c.before.before.before.before.before.before.before.before.before.before.before.before.before.before.before.before.before.before.before.before.before.before.before.before.before.before.before.before.before.last.ensures c.before.before.before.before.before.before.before.before.before.before.before.before.before.before.before.before.before.before.before.before.before.before.before.before.before.before.before.before.before.before.before.value.result c.before.before.before.before.before.before.before.before.before.before.before.before.before.before.before.before.before.before.before.before.before.before.before.before.before.before.before.before.before.before.before.value.ensures.is c.before.before.before.before.before.before.before.before.before.before.before.before.before.before.before.before.before.before.before.before.before.before.before.before.each.ensures c.before.before.before.before.before.before.before.before.before.before.before.before.before.before.before.enter-def.ensures c.before.before.before.before.before.before.before.before.resolve-node.ensures (record { binds = c.before.before.before.before.before.before.before.before.before.before.before.before.before.before.before.before.before.before.before.before.before.before.before.before.each.auto.1.1.1.1.0; w = c.before.before.before.before.before.before.before.before.before.before.before.before.before.before.before.before.before.before.before.before.before.before.before.before.each.auto.1.1.1.1.1.0; t = c.before.before.before.before.before.before.before.before.before.before.before.before.before.before.before.before.before.before.before.before.before.before.before.before.each.auto.1.1.1.1.1.1.0 }) c.before.before.before.before.before.before.before.before.before.before.before.before.before.before.before.enter-def.auto.1.1.1.0 (record { binds = c.before.before.before.before.before.before.before.before.resolve-node.auto.1.1.1.1.0; w = c.before.before.before.before.before.before.before.before.resolve-node.auto.1.1.1.1.1.0; t = c.before.before.before.before.before.before.before.before.resolve-node.auto.1.1.1.1.1.1.0 })
 
 idents-in-def-same-length : (t : ℕ) → idents-in-def-lts.Need-same-length (idents-in-def-calls t) (idents-in-def-at t) idents-in-def.Post
 idents-in-def-same-length t c = c.before.before.before.before.before.before.before.before.before.before.before.resolve-node.auto.1.1.1.1.0 ∙ c.before.before.before.before.before.before.before.before.before.before.before.before.before.before.before.before.before.before.before.before.before.before.before.before.before.before.before.each.auto.1.1.1.1.0
@@ -640,7 +640,7 @@ idents-in-def-same-length-3 : (t : ℕ) → idents-in-def-lts.Need-same-length-3
 idents-in-def-same-length-3 t c = c.before.before.exit-def.auto.1.1.1.0 ∙ c.before.before.before.before.before.before.before.before.before.before.before.resolve-node.auto.1.1.1.1.1.1.0 ∙ c.before.before.before.before.before.before.before.before.before.before.before.before.before.before.before.before.before.before.enter-def.auto.1.1.1.0 ∙ c.before.before.before.before.before.before.before.before.before.before.before.before.before.before.before.before.before.before.before.before.before.before.before.before.before.before.before.each.auto.1.1.1.1.1.1.0
 
 idents-in-def-returns : (t : ℕ) → idents-in-def-lts.Need-returns (idents-in-def-calls t) (idents-in-def-at t) idents-in-def.Post
-idents-in-def-returns t c = d-done c.before.before.before.before.before.before.before.before.before.before.before.before.before.before.before.before.before.before.before.before.before.before.before.before.before.before.before.before.before.before.before.before.before.before.before.before.before.before.before.requires.1 c.before.before.before.before.before.before.before.before.before.before.before.before.before.before.before.before.before.before.before.before.before.before.before.before.before.before.before.before.before.before.before.before.last.result c.before.before.before.before.before.before.before.before.before.before.before.before.before.before.before.before.before.before.before.before.before.before.before.before.before.before.before.before.before.before.before.before.last.ensures c.before.before.before.before.before.before.before.before.before.before.before.before.before.before.before.before.before.before.before.before.before.before.before.before.before.before.before.before.before.before.before.before.before.before.value.result c.before.before.before.before.before.before.before.before.before.before.before.before.before.before.before.before.before.before.before.before.before.before.before.before.before.before.before.before.before.before.before.before.before.before.value.ensures.is c.before.before.before.before.before.before.before.before.before.before.before.before.before.before.before.before.before.before.before.before.before.before.before.before.before.before.before.each.ensures c.before.before.before.before.before.before.before.before.before.before.before.before.before.before.before.before.before.before.enter-def.ensures c.before.before.before.before.before.before.before.before.before.before.before.resolve-node.ensures c.before.before.exit-def.ensures
+idents-in-def-returns t c = d_done c.before.before.before.before.before.before.before.before.before.before.before.before.before.before.before.before.before.before.before.before.before.before.before.before.before.before.before.before.before.before.before.before.before.before.before.before.before.before.before.requires.1 c.before.before.before.before.before.before.before.before.before.before.before.before.before.before.before.before.before.before.before.before.before.before.before.before.before.before.before.before.before.before.before.before.last.result c.before.before.before.before.before.before.before.before.before.before.before.before.before.before.before.before.before.before.before.before.before.before.before.before.before.before.before.before.before.before.before.before.last.ensures c.before.before.before.before.before.before.before.before.before.before.before.before.before.before.before.before.before.before.before.before.before.before.before.before.before.before.before.before.before.before.before.before.before.before.value.result c.before.before.before.before.before.before.before.before.before.before.before.before.before.before.before.before.before.before.before.before.before.before.before.before.before.before.before.before.before.before.before.before.before.before.value.ensures.is c.before.before.before.before.before.before.before.before.before.before.before.before.before.before.before.before.before.before.before.before.before.before.before.before.before.before.before.each.ensures c.before.before.before.before.before.before.before.before.before.before.before.before.before.before.before.before.before.before.enter-def.ensures c.before.before.before.before.before.before.before.before.before.before.before.resolve-node.ensures c.before.before.exit-def.ensures
 
 idents-in-expr-kind-requires : (t : ℕ) → idents-in-expr-lts.Need-kind-requires (idents-in-expr-calls t) (idents-in-expr-at t) idents-in-expr.Post
 idents-in-expr-kind-requires t c κs = search rules
@@ -649,7 +649,7 @@ idents-in-expr-value-requires : (t : ℕ) → idents-in-expr-lts.Need-value-requ
 idents-in-expr-value-requires t c κs = search rules
 
 idents-in-expr-resolve-ident-requires : (t : ℕ) → idents-in-expr-lts.Need-resolve-ident-requires (idents-in-expr-calls t) (idents-in-expr-at t) idents-in-expr.Post
-idents-in-expr-resolve-ident-requires t c κs = x-ident-pre c.before.before.before.before.before.before.before.before.before.before.requires.1.one c.before.before.before.value.result c.before.before.before.value.ensures.is ((sym c.before.before.before.before.before.kind.ensures.is) ∙ c.before.before.before.before.if1.true)
+idents-in-expr-resolve-ident-requires t c κs = x_ident_pre c.before.before.before.before.before.before.before.before.before.before.requires.1.one c.before.before.before.value.result c.before.before.before.value.ensures.is ((sym c.before.before.before.before.before.kind.ensures.is) ∙ c.before.before.before.before.if1.true)
 
 idents-in-expr-same-length : (t : ℕ) → idents-in-expr-lts.Need-same-length (idents-in-expr-calls t) (idents-in-expr-at t) idents-in-expr.Post
 idents-in-expr-same-length t c = search rules
@@ -661,7 +661,7 @@ idents-in-expr-same-length-3 : (t : ℕ) → idents-in-expr-lts.Need-same-length
 idents-in-expr-same-length-3 t c = search rules
 
 idents-in-expr-returns : (t : ℕ) → idents-in-expr-lts.Need-returns (idents-in-expr-calls t) (idents-in-expr-at t) idents-in-expr.Post
-idents-in-expr-returns t c = x-ident c.before.before.before.before.before.before.before.before.before.before.before.before.before.before.before.before.before.requires.1.one c.before.before.before.before.before.before.before.before.before.before.value.result c.before.before.before.before.before.before.before.before.before.before.value.ensures.is ((sym c.before.before.before.before.before.before.before.before.before.before.before.before.kind.ensures.is) ∙ c.before.before.before.before.before.before.before.before.before.before.before.if1.true) c.before.before.before.before.before.before.resolve-ident.ensures
+idents-in-expr-returns t c = x_ident c.before.before.before.before.before.before.before.before.before.before.before.before.before.before.before.before.before.requires.1.one c.before.before.before.before.before.before.before.before.before.before.value.result c.before.before.before.before.before.before.before.before.before.before.value.ensures.is ((sym c.before.before.before.before.before.before.before.before.before.before.before.before.kind.ensures.is) ∙ c.before.before.before.before.before.before.before.before.before.before.before.if1.true) c.before.before.before.before.before.before.resolve-ident.ensures
 
 idents-in-expr-idents-in-def-requires : (t : ℕ) → idents-in-expr-lts.Need-idents-in-def-requires (idents-in-expr-calls t) (idents-in-expr-at t) idents-in-expr.Post
 idents-in-expr-idents-in-def-requires t c κs = (omega (arith, c.before.before.before.before.before.before.before.before.before.before.requires.0), record { function = inr ((sym c.before.before.before.before.before.kind.ensures.is) ∙ c.before.before.before.if2.true); one = c.before.before.before.before.before.before.before.before.before.before.requires.1.one })
@@ -676,7 +676,7 @@ idents-in-expr-same-length-6 : (t : ℕ) → idents-in-expr-lts.Need-same-length
 idents-in-expr-same-length-6 t c = search rules
 
 idents-in-expr-returns-2 : (t : ℕ) → idents-in-expr-lts.Need-returns-2 (idents-in-expr-calls t) (idents-in-expr-at t) idents-in-expr.Post
-idents-in-expr-returns-2 t c = any-done c.before.before.before.before.before.before.before.before.before.before.before.before.before.before.before.before.before.args.ty c.before.before.before.before.before.before.idents-in-def.ensures
+idents-in-expr-returns-2 t c = any_done c.before.before.before.before.before.before.before.before.before.before.before.before.before.before.before.before.before.args.ty c.before.before.before.before.before.before.idents-in-def.ensures
 
 idents-in-expr-idents-in-compr-requires :
     (t : ℕ) → idents-in-expr-lts.Need-idents-in-compr-requires (idents-in-expr-calls t) (idents-in-expr-at t) idents-in-expr.Post
@@ -692,22 +692,22 @@ idents-in-expr-same-length-9 : (t : ℕ) → idents-in-expr-lts.Need-same-length
 idents-in-expr-same-length-9 t c = search rules
 
 idents-in-expr-returns-3 : (t : ℕ) → idents-in-expr-lts.Need-returns-3 (idents-in-expr-calls t) (idents-in-expr-at t) idents-in-expr.Post
-idents-in-expr-returns-3 t c = any-done c.before.before.before.before.before.before.before.before.before.before.before.before.before.before.before.before.before.before.args.ty c.before.before.before.before.before.before.idents-in-compr.ensures
+idents-in-expr-returns-3 t c = any_done c.before.before.before.before.before.before.before.before.before.before.before.before.before.before.before.before.before.before.args.ty c.before.before.before.before.before.before.idents-in-compr.ensures
 
 idents-in-expr-sub-each : (t : ℕ) → idents-in-expr-lts.Need-overflow-sub-each (idents-in-expr-calls t) (idents-in-expr-at t) idents-in-expr.Post
-idents-in-expr-sub-each t c = omega (arith, x-long c.before.before.before.before.before.before.before.before.requires.1.one)
+idents-in-expr-sub-each t c = omega (arith, x_long c.before.before.before.before.before.before.before.before.requires.1.one)
 
 idents-in-expr-part-each-start : (t : ℕ) → idents-in-expr-lts.Need-slice-bounds-each-start (idents-in-expr-calls t) (idents-in-expr-at t) idents-in-expr.Post
-idents-in-expr-part-each-start t c = omega (arith, x-long c.before.before.before.before.before.before.before.before.requires.1.one)
+idents-in-expr-part-each-start t c = omega (arith, x_long c.before.before.before.before.before.before.before.before.requires.1.one)
 
 idents-in-expr-part-each-end : (t : ℕ) → idents-in-expr-lts.Need-slice-bounds-each-end (idents-in-expr-calls t) (idents-in-expr-at t) idents-in-expr.Post
-idents-in-expr-part-each-end t c = omega (arith, x-long c.before.before.before.before.before.before.before.before.requires.1.one)
+idents-in-expr-part-each-end t c = omega (arith, x_long c.before.before.before.before.before.before.before.before.requires.1.one)
 
 idents-in-expr-add-each : (t : ℕ) → idents-in-expr-lts.Need-overflow-add-each (idents-in-expr-calls t) (idents-in-expr-at t) idents-in-expr.Post
 idents-in-expr-add-each t c = omega (arith, c.before.before.before.before.before.before.before.before.before.requires.1.one.pre.within)
 
 idents-in-expr-each-requires : (t : ℕ) → idents-in-expr-lts.Need-each-requires (idents-in-expr-calls t) (idents-in-expr-at t) idents-in-expr.Post
-idents-in-expr-each-requires t c κs = let p = c.before.before.before.before.before.before.before.before.before.before.before.before.requires.1.one in (omega (arith, c.before.before.before.before.before.before.before.before.before.before.before.before.requires.0, x-kids-length p, x-long p), x-kids-pre p)
+idents-in-expr-each-requires t c κs = let p = c.before.before.before.before.before.before.before.before.before.before.before.before.requires.1.one in (omega (arith, c.before.before.before.before.before.before.before.before.before.before.before.before.requires.0, x_kids_length p, x_long p), x_kids_pre p)
 
 idents-in-expr-same-length-10 : (t : ℕ) → idents-in-expr-lts.Need-same-length-10 (idents-in-expr-calls t) (idents-in-expr-at t) idents-in-expr.Post
 idents-in-expr-same-length-10 t c = search rules
@@ -724,13 +724,13 @@ idents-in-expr-returns-4 t c = x_others c.before.before.before.before.before.bef
 idents-in-param-sub-each :
     (t : ℕ) →
     idents-in-param-lts.Need-overflow-sub-each (idents-in-param-calls t) (idents-in-param-at t) idents-in-param.Post
-idents-in-param-sub-each t c = omega (arith, x-long c.before.before.before.before.requires.1.one)
+idents-in-param-sub-each t c = omega (arith, x_long c.before.before.before.before.requires.1.one)
 
 idents-in-param-part-each-start : (t : ℕ) → idents-in-param-lts.Need-slice-bounds-each-start (idents-in-param-calls t) (idents-in-param-at t) idents-in-param.Post
-idents-in-param-part-each-start t c = omega (arith, x-long c.before.before.before.before.requires.1.one)
+idents-in-param-part-each-start t c = omega (arith, x_long c.before.before.before.before.requires.1.one)
 
 idents-in-param-part-each-end : (t : ℕ) → idents-in-param-lts.Need-slice-bounds-each-end (idents-in-param-calls t) (idents-in-param-at t) idents-in-param.Post
-idents-in-param-part-each-end t c = omega (arith, x-long c.before.before.before.before.requires.1.one)
+idents-in-param-part-each-end t c = omega (arith, x_long c.before.before.before.before.requires.1.one)
 
 idents-in-param-add-each :
     (t : ℕ) →
@@ -738,7 +738,7 @@ idents-in-param-add-each :
 idents-in-param-add-each t c = omega (arith, c.before.before.before.before.before.requires.1.one.pre.within)
 
 idents-in-param-each-requires : (t : ℕ) → idents-in-param-lts.Need-each-requires (idents-in-param-calls t) (idents-in-param-at t) idents-in-param.Post
-idents-in-param-each-requires t c κs = let p = c.before.before.before.before.before.before.before.before.requires.1.one in (omega (arith, c.before.before.before.before.before.before.before.before.requires.0, x-kids-length p, x-long p), x-kids-pre p)
+idents-in-param-each-requires t c κs = let p = c.before.before.before.before.before.before.before.before.requires.1.one in (omega (arith, c.before.before.before.before.before.before.before.before.requires.0, x_kids_length p, x_long p), x_kids_pre p)
 
 idents-in-param-same-length : (t : ℕ) → idents-in-param-lts.Need-same-length (idents-in-param-calls t) (idents-in-param-at t) idents-in-param.Post
 idents-in-param-same-length t c = search rules
@@ -755,19 +755,19 @@ idents-in-param-returns :
 idents-in-param-returns t c = x_others c.before.before.before.before.before.before.before.before.before.before.before.before.before.before.before.requires.1.one (omega (arith, c.before.before.before.before.before.before.before.before.before.before.before.before.before.before.before.requires.1.high, c.before.before.before.before.before.before.before.before.before.before.before.before.before.before.before.requires.1.low)) c.before.before.before.before.before.before.each.ensures
 
 idents-in-type-expr-sub-each : (t : ℕ) → idents-in-type-expr-lts.Need-overflow-sub-each (idents-in-type-expr-calls t) (idents-in-type-expr-at t) idents-in-type-expr.Post
-idents-in-type-expr-sub-each t c = omega (arith, x-long c.before.before.before.before.requires.1.one)
+idents-in-type-expr-sub-each t c = omega (arith, x_long c.before.before.before.before.requires.1.one)
 
 idents-in-type-expr-part-each-start : (t : ℕ) → idents-in-type-expr-lts.Need-slice-bounds-each-start (idents-in-type-expr-calls t) (idents-in-type-expr-at t) idents-in-type-expr.Post
-idents-in-type-expr-part-each-start t c = omega (arith, x-long c.before.before.before.before.requires.1.one)
+idents-in-type-expr-part-each-start t c = omega (arith, x_long c.before.before.before.before.requires.1.one)
 
 idents-in-type-expr-part-each-end : (t : ℕ) → idents-in-type-expr-lts.Need-slice-bounds-each-end (idents-in-type-expr-calls t) (idents-in-type-expr-at t) idents-in-type-expr.Post
-idents-in-type-expr-part-each-end t c = omega (arith, x-long c.before.before.before.before.requires.1.one)
+idents-in-type-expr-part-each-end t c = omega (arith, x_long c.before.before.before.before.requires.1.one)
 
 idents-in-type-expr-add-each : (t : ℕ) → idents-in-type-expr-lts.Need-overflow-add-each (idents-in-type-expr-calls t) (idents-in-type-expr-at t) idents-in-type-expr.Post
 idents-in-type-expr-add-each t c = omega (arith, c.before.before.before.before.before.requires.1.one.pre.within)
 
 idents-in-type-expr-each-requires : (t : ℕ) → idents-in-type-expr-lts.Need-each-requires (idents-in-type-expr-calls t) (idents-in-type-expr-at t) idents-in-type-expr.Post
-idents-in-type-expr-each-requires t c κs = let p = c.before.before.before.before.before.before.before.before.requires.1.one in (omega (arith, c.before.before.before.before.before.before.before.before.requires.0, x-kids-length p, x-long p), x-kids-pre p)
+idents-in-type-expr-each-requires t c κs = let p = c.before.before.before.before.before.before.before.before.requires.1.one in (omega (arith, c.before.before.before.before.before.before.before.before.requires.0, x_kids_length p, x_long p), x_kids_pre p)
 
 idents-in-type-expr-same-length : (t : ℕ) → idents-in-type-expr-lts.Need-same-length (idents-in-type-expr-calls t) (idents-in-type-expr-at t) idents-in-type-expr.Post
 idents-in-type-expr-same-length t c = search rules
@@ -779,7 +779,7 @@ idents-in-type-expr-same-length-3 : (t : ℕ) → idents-in-type-expr-lts.Need-s
 idents-in-type-expr-same-length-3 t c = search rules
 
 idents-in-type-expr-returns : (t : ℕ) → idents-in-type-expr-lts.Need-returns (idents-in-type-expr-calls t) (idents-in-type-expr-at t) idents-in-type-expr.Post
-idents-in-type-expr-returns t c = x-type c.before.before.before.before.before.before.before.before.before.before.before.before.before.before.before.requires.1.one (kind-is c.before.before.before.before.before.before.before.before.before.before.before.before.before.before.before.requires.1) c.before.before.before.before.before.before.each.ensures
+idents-in-type-expr-returns t c = x_type c.before.before.before.before.before.before.before.before.before.before.before.before.before.before.before.requires.1.one (kind_is c.before.before.before.before.before.before.before.before.before.before.before.before.before.before.before.requires.1) c.before.before.before.before.before.before.each.ensures
 
 resolve-idents-kind-requires : (t : ℕ) → resolve-idents-lts.Need-kind-requires (resolve-idents-calls t) (resolve-idents-at t) resolve-idents.Post
 resolve-idents-kind-requires t c κs = search rules
@@ -797,22 +797,22 @@ resolve-idents-same-length-3 : (t : ℕ) → resolve-idents-lts.Need-same-length
 resolve-idents-same-length-3 t c = search rules
 
 resolve-idents-returns : (t : ℕ) → resolve-idents-lts.Need-returns (resolve-idents-calls t) (resolve-idents-at t) resolve-idents.Post
-resolve-idents-returns t c = any-done c.before.before.before.before.before.before.before.before.before.before.before.before.before.before.before.before.args.ty c.before.before.before.before.before.before.idents-in-def.ensures
+resolve-idents-returns t c = any_done c.before.before.before.before.before.before.before.before.before.before.before.before.before.before.before.before.args.ty c.before.before.before.before.before.before.idents-in-def.ensures
 
 resolve-idents-sub-each : (t : ℕ) → resolve-idents-lts.Need-overflow-sub-each (resolve-idents-calls t) (resolve-idents-at t) resolve-idents.Post
-resolve-idents-sub-each t c = omega (arith, x-long c.before.before.before.before.before.before.requires.1.one)
+resolve-idents-sub-each t c = omega (arith, x_long c.before.before.before.before.before.before.requires.1.one)
 
 resolve-idents-part-each-start : (t : ℕ) → resolve-idents-lts.Need-slice-bounds-each-start (resolve-idents-calls t) (resolve-idents-at t) resolve-idents.Post
-resolve-idents-part-each-start t c = omega (arith, x-long c.before.before.before.before.before.before.requires.1.one)
+resolve-idents-part-each-start t c = omega (arith, x_long c.before.before.before.before.before.before.requires.1.one)
 
 resolve-idents-part-each-end : (t : ℕ) → resolve-idents-lts.Need-slice-bounds-each-end (resolve-idents-calls t) (resolve-idents-at t) resolve-idents.Post
-resolve-idents-part-each-end t c = omega (arith, x-long c.before.before.before.before.before.before.requires.1.one)
+resolve-idents-part-each-end t c = omega (arith, x_long c.before.before.before.before.before.before.requires.1.one)
 
 resolve-idents-add-each : (t : ℕ) → resolve-idents-lts.Need-overflow-add-each (resolve-idents-calls t) (resolve-idents-at t) resolve-idents.Post
 resolve-idents-add-each t c = omega (arith, c.before.before.before.before.before.before.before.requires.1.one.pre.within)
 
 resolve-idents-each-requires : (t : ℕ) → resolve-idents-lts.Need-each-requires (resolve-idents-calls t) (resolve-idents-at t) resolve-idents.Post
-resolve-idents-each-requires t c κs = let p = c.before.before.before.before.before.before.before.before.before.before.requires.1.one in (omega (arith, c.before.before.before.before.before.before.before.before.before.before.requires.0, x-kids-length p, x-long p), x-kids-pre p)
+resolve-idents-each-requires t c κs = let p = c.before.before.before.before.before.before.before.before.before.before.requires.1.one in (omega (arith, c.before.before.before.before.before.before.before.before.before.before.requires.0, x_kids_length p, x_long p), x_kids_pre p)
 
 resolve-idents-same-length-4 : (t : ℕ) → resolve-idents-lts.Need-same-length-4 (resolve-idents-calls t) (resolve-idents-at t) resolve-idents.Post
 resolve-idents-same-length-4 t c = search rules
@@ -906,7 +906,7 @@ resolve-node-returns-5 t c = c.before.before.before.before.before.before.idents-
 
 resolve-node-idents-in-type-expr-requires :
     (t : ℕ) → resolve-node-lts.Need-idents-in-type-expr-requires (resolve-node-calls t) (resolve-node-at t) resolve-node.Post
-resolve-node-idents-in-type-expr-requires t c κs = let e = c.before.before.before.before.before.before.before.before.kind.ensures.is in (omega (arith, c.before.before.before.before.before.before.before.before.before.before.before.before.before.requires.0), record { low = omega (arith, c.before.before.before.before.if4.false, c.before.before.before.if5.false); high = x-kind c.before.before.before.before.before.before.before.before.before.before.before.before.before.requires.1; one = c.before.before.before.before.before.before.before.before.before.before.before.before.before.requires.1 })
+resolve-node-idents-in-type-expr-requires t c κs = let e = c.before.before.before.before.before.before.before.before.kind.ensures.is in (omega (arith, c.before.before.before.before.before.before.before.before.before.before.before.before.before.requires.0), record { low = omega (arith, c.before.before.before.before.if4.false, c.before.before.before.if5.false); high = x_kind c.before.before.before.before.before.before.before.before.before.before.before.before.before.requires.1; one = c.before.before.before.before.before.before.before.before.before.before.before.before.before.requires.1 })
 
 resolve-node-same-length-16 : (t : ℕ) → resolve-node-lts.Need-same-length-16 (resolve-node-calls t) (resolve-node-at t) resolve-node.Post
 resolve-node-same-length-16 t c = search rules
@@ -918,7 +918,7 @@ resolve-node-same-length-18 : (t : ℕ) → resolve-node-lts.Need-same-length-18
 resolve-node-same-length-18 t c = search rules
 
 resolve-node-returns-6 : (t : ℕ) → resolve-node-lts.Need-returns-6 (resolve-node-calls t) (resolve-node-at t) resolve-node.Post
-resolve-node-returns-6 t c = any-done c.before.before.before.before.before.before.before.before.before.before.before.before.before.before.before.before.before.before.before.before.args.ty c.before.before.before.before.before.before.idents-in-type-expr.ensures
+resolve-node-returns-6 t c = any_done c.before.before.before.before.before.before.before.before.before.before.before.before.before.before.before.before.before.before.before.before.args.ty c.before.before.before.before.before.before.idents-in-type-expr.ensures
 
 pub +each-idents-in-assign-idents-in-clause-idents-in-compr-idents-in-def-idents-in-expr-idents-in-param-idents-in-type-expr-resolve-idents-resolve-node-spec :
     {M : Type 1} → statement M

@@ -4,8 +4,8 @@ use native.Mathlib.Omega.{arith}
 use mathlib.Core.Path.{ap, ◌∙◌}
 use Prim.Native.Nat.{ℕ, ◌-◌, ◌*◌}
 use lib.ListN.{length}
-use Rattle.nodefile.specs.Parts.{size-from}
-use Rattle.idents.proofs.Trail.{Trail, trail-start, trail-inside, trail_more, trail-end}
+use Rattle.nodefile.specs.Parts.{size_from}
+use Rattle.idents.proofs.Trail.{Trail, trail_start, trail_inside, trail_more, trail_end}
 use Rattle.idents.proofs.last.Statement.{statement}
 use Rattle.idents.proofs.last.Tie as tie
 
@@ -22,7 +22,7 @@ mul-e : tie.Need-overflow-mul-e invariant-loop decreases-loop
 mul-e c = search rules
 
 loop-holds : tie.Need-loop-init invariant-loop decreases-loop
-loop-holds c = trail-start c.before.before.args.part.now _ c.before.before.requires.1 (ap (λ (n : ℕ). 8 * n) c.size.ensures.is)
+loop-holds c = trail_start c.before.before.args.part.now _ c.before.before.requires.1 (ap (λ (n : ℕ). 8 * n) c.size.ensures.is)
 
 sub-size : tie.Need-overflow-sub-size invariant-loop decreases-loop
 sub-size c = search rules
@@ -43,16 +43,16 @@ add-e : tie.Need-overflow-add-e invariant-loop decreases-loop
 add-e c = search rules
 
 loop-less : tie.Need-loop-smaller invariant-loop decreases-loop
-loop-less c = let f = trail-inside (trail_more c.before.before.before.loop.invariant c.before.before.loop-test.true c.size2.result (c.size2.ensures.is ∙ size-from c.before.before.before.before.before.before.args.part.now c.before.before.before.loop.e) c.before.before.before.before.before.before.requires.1) c.before.before.before.before.before.before.requires.1 in omega arith
+loop-less c = let f = trail_inside (trail_more c.before.before.before.loop.invariant c.before.before.loop-test.true c.size2.result (c.size2.ensures.is ∙ size_from c.before.before.before.before.before.before.args.part.now c.before.before.before.loop.e) c.before.before.before.before.before.before.requires.1) c.before.before.before.before.before.before.requires.1 in omega arith
 
 loop-again : tie.Need-loop-preserved invariant-loop decreases-loop
-loop-again c = trail_more c.before.before.before.loop.invariant c.before.before.loop-test.true c.size2.result (c.size2.ensures.is ∙ size-from c.before.before.before.before.before.before.args.part.now c.before.before.before.loop.e) c.before.before.before.before.before.before.requires.1
+loop-again c = trail_more c.before.before.before.loop.invariant c.before.before.loop-test.true c.size2.result (c.size2.ensures.is ∙ size_from c.before.before.before.before.before.before.args.part.now c.before.before.before.loop.e) c.before.before.before.before.before.before.requires.1
 
 returns : tie.Need-returns invariant-loop decreases-loop
-returns c = trail-end c.before.loop.invariant c.loop-test.false
+returns c = trail_end c.before.loop.invariant c.loop-test.false
 
-pub last-spec : {M : Type 1} → statement M
-last-spec =
+pub last_spec : {M : Type 1} → statement M
+last_spec =
     tie.close
     (tie.spec
     invariant-loop

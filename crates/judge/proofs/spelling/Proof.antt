@@ -5,7 +5,7 @@ use mathlib.Core.List.{List}
 use native.Mathlib.Omega.{arith}
 use Rattle.nodefile.specs.Lists.{spelled}
 use Rattle.judge.specs.Cond.{Judged}
-use Rattle.judge.specs.Spelling.{known, refused, no-such-name}
+use Rattle.judge.specs.Spelling.{known, refused, no_such_name}
 use borrow.Author.Rules.{rules}
 use Rattle.judge.proofs.spelling.Statement.{statement}
 use Rattle.judge.proofs.spelling.Tie as tie
@@ -28,7 +28,7 @@ slice-aggregate-result-2 : tie.Need-slice-aggregate-result-2
 slice-aggregate-result-2 c = search rules
 
 returns-2 : tie.Need-returns-2
-returns-2 c = no-such-name (omega (arith, c.before.before.name-count.ensures.is)) refl
+returns-2 c = no_such_name (omega (arith, c.before.before.name-count.ensures.is)) refl
 
 names-requires : tie.Need-names-requires
 names-requires c κs = search rules
@@ -46,8 +46,8 @@ returns-3 c =
     let judge' = c.before.before.before.before.before.before.judge in
     known (subst (λ (r : ℕ). Judged args'.file.now r) if1'.false judge'.ensures) (omega (arith, c.before.before.before.before.name-count.ensures.is)) (c.spelled.ensures ∙ ap₂ (λ (nm pool : List ℕ). spelled nm pool args'.name) c.before.before.names.ensures c.before.pool.ensures)
 
-pub spelling-spec : {M : Type 1} → statement M
-spelling-spec =
+pub spelling_spec : {M : Type 1} → statement M
+spelling_spec =
     tie.close
     (tie.spec
     judge-requires

@@ -3,45 +3,45 @@ use Rattle.std.specs.Prelude.{ℕ, ◌≤◌, ◌<◌, ◌≡◌, List, length, 
 use Rattle.std.proofs.Common.{sym, ◌∙◌, arith, length-take}
 use Rattle.base.specs.First.{here, later}
 use Rattle.bits.specs.FieldLaws.{field-take}
-use Rattle.nodefile.specs.Layout.{version, headZero, nodeCount, nameCount, entryCount, globalCount, poolBytes}
+use Rattle.nodefile.specs.Layout.{version, head_zero, node_count, name_count, entry_count, global_count, pool_bytes}
 use Rattle.base.specs.Says.{unless}
-use Rattle.header.specs.Header.{BadHeader, short, other-version, zero-bits-set, BadCounts, no-nodes, many-nodes, many-names, many-entries, many-globals, large-pool, BadLength, other_length}
+use Rattle.header.specs.Header.{BadHeader, short, other_version, zero_bits_set, BadCounts, no_nodes, too_many_nodes, too_many_names, too_many_entries, too_many_globals, large_pool, BadLength, other_length}
 use Rattle.judge.specs.Cond.{Judged}
 
 -- the first 12 bytes say the same
 pub record Same (fs bs : List ℕ) : Type 0 where
   pub version' : version fs ≡ version bs
-  pub zero : headZero fs ≡ headZero bs
-  pub nodes : nodeCount fs ≡ nodeCount bs
-  pub names : nameCount fs ≡ nameCount bs
-  pub entries : entryCount fs ≡ entryCount bs
-  pub globals : globalCount fs ≡ globalCount bs
-  pub pool : poolBytes fs ≡ poolBytes bs
+  pub zero : head_zero fs ≡ head_zero bs
+  pub nodes : node_count fs ≡ node_count bs
+  pub names : name_count fs ≡ name_count bs
+  pub entries : entry_count fs ≡ entry_count bs
+  pub globals : global_count fs ≡ global_count bs
+  pub pool : pool_bytes fs ≡ pool_bytes bs
   pub long : 37388 < length fs
 
 module _ {fs bs : List ℕ} (s : Same fs bs) (long : 37388 < length bs) where
   header : BadHeader fs → BadHeader bs
   header (short h) = absurd (omega (arith, s.long))
-  header (other-version h) = other-version (λ e. h (s.version' ∙ e))
-  header (zero-bits-set h) = zero-bits-set (λ e. h (s.zero ∙ e))
+  header (other_version h) = other_version (λ e. h (s.version' ∙ e))
+  header (zero_bits_set h) = zero_bits_set (λ e. h (s.zero ∙ e))
 
   counts : BadCounts fs → BadCounts bs
-  counts (no-nodes h) = no-nodes (sym s.nodes ∙ h)
-  counts (many-nodes h) = many-nodes (omega (arith, s.nodes))
-  counts (many-names h) = many-names (omega (arith, s.names))
-  counts (many-entries h) = many-entries (omega (arith, s.entries))
-  counts (many-globals h) = many-globals (omega (arith, s.globals))
-  counts (large-pool h) = large-pool (omega (arith, s.pool))
+  counts (no_nodes h) = no_nodes (sym s.nodes ∙ h)
+  counts (too_many_nodes h) = too_many_nodes (omega (arith, s.nodes))
+  counts (too_many_names h) = too_many_names (omega (arith, s.names))
+  counts (too_many_entries h) = too_many_entries (omega (arith, s.entries))
+  counts (too_many_globals h) = too_many_globals (omega (arith, s.globals))
+  counts (large_pool h) = large_pool (omega (arith, s.pool))
 
 -- no file as long as this has the length that its header says
 too_long : (bs : List ℕ) → 37388 < length bs → (BadCounts bs → ⊥) → BadLength bs
 too_long bs h ok = other_length (λ e. omega (
   arith,
-  unless (nodeCount bs) 2048 ok many-nodes,
-  unless (nameCount bs) 1024 ok many-names,
-  unless (entryCount bs) 256 ok many-entries,
-  unless (globalCount bs) 256 ok many-globals,
-  unless (poolBytes bs) 16384 ok large-pool,
+  unless (node_count bs) 2048 ok too_many_nodes,
+  unless (name_count bs) 1024 ok too_many_names,
+  unless (entry_count bs) 256 ok too_many_entries,
+  unless (global_count bs) 256 ok too_many_globals,
+  unless (pool_bytes bs) 16384 ok large_pool,
 ))
 
 module _ {fs bs : List ℕ} (s : Same fs bs) (t : Same bs fs) where
@@ -53,8 +53,8 @@ module _ {fs bs : List ℕ} (s : Same fs bs) (t : Same bs fs) where
       later (λ h. two (header t s.long h)) (later ok (here (too_long bs t.long ok) e))
   same_answer (later two (later three (later four f))) = absurd (four (too_long fs s.long three))
 
-same-front : (bs : List ℕ) (n : ℕ) → 37388 < n → n ≤ length bs → Same (take n bs) bs
-same-front bs n h l =
+same_front : (bs : List ℕ) (n : ℕ) → 37388 < n → n ≤ length bs → Same (take n bs) bs
+same_front bs n h l =
     record {
       version' = field-take bs n 0 4 (omega arith);
       zero = field-take bs n 5 3 (omega arith);
@@ -80,4 +80,4 @@ back l s =
     }
 
 pub front : (bs : List ℕ) (n r : ℕ) → 37388 < n → n ≤ length bs → Judged (take n bs) r → Judged bs r
-front bs n r h l j = let s = same-front bs n h l in same_answer s (back (omega arith) s) j
+front bs n r h l j = let s = same_front bs n h l in same_answer s (back (omega arith) s) j

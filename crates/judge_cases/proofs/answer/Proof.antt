@@ -25,8 +25,8 @@ answer-in-requires c κs = search rules
 returns : tie.Need-returns
 returns c = search rules
 
-pub answer-spec : {M : Type 1} → statement M
-answer-spec =
+pub answer_spec : {M : Type 1} → statement M
+answer_spec =
     tie.close
     (tie.spec
     large-buffer-requires

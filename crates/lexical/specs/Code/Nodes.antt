@@ -1,48 +1,48 @@
 -- The lists that the tree gives, by kind of node: scope numbers, parameters, Names, Idents. Equations for code.
 use Rattle.std.specs.Prelude.{◌≡◌, ◌∷◌, ◌++◌, ℕ}
 use Rattle.std.proofs.Math.Path.{refl}
-use Rattle.lexical.specs.Tree.{Forest, node, way, isFn, isLook, pick, isName, listed, when, scopesIn, params, paramsIn, namesIn, identsIn}
-use Rattle.lexical.specs.Proof.Kinds.{no_fn, no-look, no_name}
-use Rattle.lexical.specs.Proof.Listed.{listed-no}
+use Rattle.lexical.specs.Tree.{Forest, node, way, is_fn, is_look, pick, is_name, listed, when, scopes_in, params, params_in, names_in, idents_in}
+use Rattle.lexical.specs.Proof.Kinds.{no_fn, no_look, no_name}
+use Rattle.lexical.specs.Proof.Listed.{listed_no}
 
 module _ (at v : ℕ) (kids rest : Forest) where
-  pub scopes-def : scopesIn (node at 6 v kids rest) ≡ v ∷ (scopesIn kids ++ scopesIn rest)
-  unfolding scopesIn listed when isFn way
-  scopes-def = refl
+  pub scopes_def : scopes_in (node at 6 v kids rest) ≡ v ∷ (scopes_in kids ++ scopes_in rest)
+  unfolding scopes_in listed when is_fn way
+  scopes_def = refl
 
-  pub scopes-lambda : scopesIn (node at 12 v kids rest) ≡ v ∷ (scopesIn kids ++ scopesIn rest)
-  unfolding scopesIn listed when isFn way
-  scopes-lambda = refl
+  pub scopes_lambda : scopes_in (node at 12 v kids rest) ≡ v ∷ (scopes_in kids ++ scopes_in rest)
+  unfolding scopes_in listed when is_fn way
+  scopes_lambda = refl
 
-  pub params-def : paramsIn (node at 6 v kids rest) ≡ (v, params kids) ∷ (paramsIn kids ++ paramsIn rest)
-  unfolding paramsIn listed when isFn way
-  params-def = refl
+  pub params_def : params_in (node at 6 v kids rest) ≡ (v, params kids) ∷ (params_in kids ++ params_in rest)
+  unfolding params_in listed when is_fn way
+  params_def = refl
 
-  pub params-lambda : paramsIn (node at 12 v kids rest) ≡ (v, params kids) ∷ (paramsIn kids ++ paramsIn rest)
-  unfolding paramsIn listed when isFn way
-  params-lambda = refl
+  pub params_lambda : params_in (node at 12 v kids rest) ≡ (v, params kids) ∷ (params_in kids ++ params_in rest)
+  unfolding params_in listed when is_fn way
+  params_lambda = refl
 
-  pub names-name : namesIn (node at 8 v kids rest) ≡ at ∷ (namesIn kids ++ namesIn rest)
-  unfolding namesIn listed when isName pick
-  names-name = refl
+  pub names_name : names_in (node at 8 v kids rest) ≡ at ∷ (names_in kids ++ names_in rest)
+  unfolding names_in listed when is_name pick
+  names_name = refl
 
-  pub idents-ident : identsIn (node at 11 v kids rest) ≡ at ∷ (identsIn kids ++ identsIn rest)
-  unfolding identsIn listed when isLook way
-  idents-ident = refl
+  pub idents_ident : idents_in (node at 11 v kids rest) ≡ at ∷ (idents_in kids ++ idents_in rest)
+  unfolding idents_in listed when is_look way
+  idents_ident = refl
 
 -- at the other kinds
-pub scopes-others : (k : ℕ) → (k ≡ 6 → ⊥) → (k ≡ 12 → ⊥) → (at v : ℕ) (kids rest : Forest) → scopesIn (node at k v kids rest) ≡ scopesIn kids ++ scopesIn rest
-unfolding scopesIn
-scopes-others k a b at v kids rest = listed-no _ _ k (no_fn k a b) at v kids rest
+pub scopes_others : (k : ℕ) → (k ≡ 6 → ⊥) → (k ≡ 12 → ⊥) → (at v : ℕ) (kids rest : Forest) → scopes_in (node at k v kids rest) ≡ scopes_in kids ++ scopes_in rest
+unfolding scopes_in
+scopes_others k a b at v kids rest = listed_no _ _ k (no_fn k a b) at v kids rest
 
-pub params-others : (k : ℕ) → (k ≡ 6 → ⊥) → (k ≡ 12 → ⊥) → (at v : ℕ) (kids rest : Forest) → paramsIn (node at k v kids rest) ≡ paramsIn kids ++ paramsIn rest
-unfolding paramsIn
-params-others k a b at v kids rest = listed-no _ _ k (no_fn k a b) at v kids rest
+pub params_others : (k : ℕ) → (k ≡ 6 → ⊥) → (k ≡ 12 → ⊥) → (at v : ℕ) (kids rest : Forest) → params_in (node at k v kids rest) ≡ params_in kids ++ params_in rest
+unfolding params_in
+params_others k a b at v kids rest = listed_no _ _ k (no_fn k a b) at v kids rest
 
-pub names-others : (k : ℕ) → (k ≡ 8 → ⊥) → (at v : ℕ) (kids rest : Forest) → namesIn (node at k v kids rest) ≡ namesIn kids ++ namesIn rest
-unfolding namesIn
-names-others k n at v kids rest = listed-no _ _ k (no_name k n) at v kids rest
+pub names_others : (k : ℕ) → (k ≡ 8 → ⊥) → (at v : ℕ) (kids rest : Forest) → names_in (node at k v kids rest) ≡ names_in kids ++ names_in rest
+unfolding names_in
+names_others k n at v kids rest = listed_no _ _ k (no_name k n) at v kids rest
 
-pub idents-others : (k : ℕ) → (k ≡ 11 → ⊥) → (at v : ℕ) (kids rest : Forest) → identsIn (node at k v kids rest) ≡ identsIn kids ++ identsIn rest
-unfolding identsIn
-idents-others k n at v kids rest = listed-no _ _ k (no-look k n) at v kids rest
+pub idents_others : (k : ℕ) → (k ≡ 11 → ⊥) → (at v : ℕ) (kids rest : Forest) → idents_in (node at k v kids rest) ≡ idents_in kids ++ idents_in rest
+unfolding idents_in
+idents_others k n at v kids rest = listed_no _ _ k (no_look k n) at v kids rest

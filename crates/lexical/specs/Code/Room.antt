@@ -4,110 +4,110 @@ use Rattle.std.proofs.Common.{◌∙◌}
 use mathlib.Core.List.{List, []}
 use Rattle.std.proofs.Math.Bool.{true}
 use native.Mathlib.Omega.{arith}
-use Rattle.lexical.specs.Sums.{total-zeros, total, total-ones}
-use Rattle.lexical.specs.Tree.{isFn, isCompr, when, listed, Forest, nil, node, plain, way, after, nodesIn, identsIn, namesIn}
+use Rattle.lexical.specs.Sums.{total_zeros, total, total_ones}
+use Rattle.lexical.specs.Tree.{is_fn, is_compr, when, listed, Forest, nil, node, plain, way, after, nodes_in, idents_in, names_in}
 use Rattle.lexical.specs.Table.{Headed}
 use Rattle.lexical.specs.Binders.{Names, targets, collect, unmarked, looping}
-use Rattle.lexical.specs.Module.{Outer, File, moduleVars}
-use Rattle.lexical.specs.Order.{comprBlocks, fnBlocks}
+use Rattle.lexical.specs.Module.{Outer, File, module_vars}
+use Rattle.lexical.specs.Order.{compr_blocks, fn_blocks}
 use Rattle.lexical.specs.State.{Binding, St, Row, Ctx}
 use Rattle.lexical.specs.First.{start}
 use Rattle.lexical.specs.Second.{declare, second}
 use Rattle.lexical.specs.Third.{walk}
-use Rattle.lexical.specs.Code.Capacity.{made-sized, named-sized, module-size}
-use Rattle.lexical.specs.Proof.Count.{weigh, weighAll, counted, counted-nodes}
-use Rattle.lexical.specs.Proof.Kinds.{no-compr, no_fn}
+use Rattle.lexical.specs.Code.Capacity.{made_sized, named_sized, module_size}
+use Rattle.lexical.specs.Proof.Count.{weigh, weigh_all, counted, counted_nodes}
+use Rattle.lexical.specs.Proof.Kinds.{no_compr, no_fn}
 use Rattle.lexical.specs.Proof.Listed.{listed-total}
-use Rattle.lexical.specs.Proof.Modules.{module-length}
-use Rattle.lexical.specs.Proof.Sized.{declare-size, walk-size}
+use Rattle.lexical.specs.Proof.Modules.{module_length}
+use Rattle.lexical.specs.Proof.Sized.{declare_size, walk_size}
 
 -- how many Names the functions among some nodes bind, how many the comprehensions
-unfoldable pub fnRoom : Names → Forest → ℕ
-fnRoom N f = weighAll (λ x. 1) (fnBlocks N f)
+unfoldable pub fn_room : Names → Forest → ℕ
+fn_room N f = weigh_all (λ x. 1) (fn_blocks N f)
 
-unfoldable pub comprRoom : Names → Forest → ℕ
-comprRoom N f = weighAll (λ x. 1) (comprBlocks N f)
+unfoldable pub compr_room : Names → Forest → ℕ
+compr_room N f = weigh_all (λ x. 1) (compr_blocks N f)
 
-pub fnRoom-nil : (N : Names) → fnRoom N nil ≡ 0
-unfolding fnRoom fnBlocks listed total
-fnRoom-nil N = refl
+pub fn_room_nil : (N : Names) → fn_room N nil ≡ 0
+unfolding fn_room fn_blocks listed total
+fn_room_nil N = refl
 
-pub comprRoom-nil : (N : Names) → comprRoom N nil ≡ 0
-unfolding comprRoom comprBlocks listed total
-comprRoom-nil N = refl
+pub compr_room_nil : (N : Names) → compr_room N nil ≡ 0
+unfolding compr_room compr_blocks listed total
+compr_room_nil N = refl
 
-fnRoom-node : (N : Names) (at k v : ℕ) (kids rest : Forest) → fnRoom N (node at k v kids rest) ≡ weighAll (λ x. 1) (when (isFn (way k)) (targets N k kids)) + (fnRoom N kids + fnRoom N rest)
-unfolding fnRoom fnBlocks
-fnRoom-node N at k v kids rest = listed-total (λ k. isFn (way k)) (λ at k v kids. targets N k kids) (weigh (λ x. 1)) at k v kids rest
+fn_room_node : (N : Names) (at k v : ℕ) (kids rest : Forest) → fn_room N (node at k v kids rest) ≡ weigh_all (λ x. 1) (when (is_fn (way k)) (targets N k kids)) + (fn_room N kids + fn_room N rest)
+unfolding fn_room fn_blocks
+fn_room_node N at k v kids rest = listed-total (λ k. is_fn (way k)) (λ at k v kids. targets N k kids) (weigh (λ x. 1)) at k v kids rest
 
-comprRoom-node : (N : Names) (at k v : ℕ) (kids rest : Forest) → comprRoom N (node at k v kids rest) ≡ weighAll (λ x. 1) (when (isCompr (way k)) (targets N k kids)) + (comprRoom N kids + comprRoom N rest)
-unfolding comprRoom comprBlocks
-comprRoom-node N at k v kids rest = listed-total (λ k. isCompr (way k)) (λ at k v kids. targets N k kids) (weigh (λ x. 1)) at k v kids rest
+compr_room_node : (N : Names) (at k v : ℕ) (kids rest : Forest) → compr_room N (node at k v kids rest) ≡ weigh_all (λ x. 1) (when (is_compr (way k)) (targets N k kids)) + (compr_room N kids + compr_room N rest)
+unfolding compr_room compr_blocks
+compr_room_node N at k v kids rest = listed-total (λ k. is_compr (way k)) (λ at k v kids. targets N k kids) (weigh (λ x. 1)) at k v kids rest
 
-pub fnRoom-def : (N : Names) (at v : ℕ) (kids rest : Forest) → fnRoom N (node at 6 v kids rest) ≡ length (collect N unmarked (after kids)) + (fnRoom N kids + fnRoom N rest)
-unfolding way isFn when targets total
-fnRoom-def N at v kids rest = omega (arith, fnRoom-node N at 6 v kids rest, total-ones (collect N unmarked (after kids)))
+pub fn_room_def : (N : Names) (at v : ℕ) (kids rest : Forest) → fn_room N (node at 6 v kids rest) ≡ length (collect N unmarked (after kids)) + (fn_room N kids + fn_room N rest)
+unfolding way is_fn when targets total
+fn_room_def N at v kids rest = omega (arith, fn_room_node N at 6 v kids rest, total_ones (collect N unmarked (after kids)))
 
-pub fnRoom-lambda : (N : Names) (at v : ℕ) (kids rest : Forest) → fnRoom N (node at 12 v kids rest) ≡ length (collect N unmarked kids) + (fnRoom N kids + fnRoom N rest)
-unfolding way isFn when targets total
-fnRoom-lambda N at v kids rest = omega (arith, fnRoom-node N at 12 v kids rest, total-ones (collect N unmarked kids))
+pub fn_room_lambda : (N : Names) (at v : ℕ) (kids rest : Forest) → fn_room N (node at 12 v kids rest) ≡ length (collect N unmarked kids) + (fn_room N kids + fn_room N rest)
+unfolding way is_fn when targets total
+fn_room_lambda N at v kids rest = omega (arith, fn_room_node N at 12 v kids rest, total_ones (collect N unmarked kids))
 
-pub comprRoom-compr : (N : Names) (at v : ℕ) (kids rest : Forest) → comprRoom N (node at 13 v kids rest) ≡ length (collect N looping kids) + (comprRoom N kids + comprRoom N rest)
-unfolding way isCompr when targets total
-comprRoom-compr N at v kids rest = omega (arith, comprRoom-node N at 13 v kids rest, total-ones (collect N looping kids))
+pub compr_room_compr : (N : Names) (at v : ℕ) (kids rest : Forest) → compr_room N (node at 13 v kids rest) ≡ length (collect N looping kids) + (compr_room N kids + compr_room N rest)
+unfolding way is_compr when targets total
+compr_room_compr N at v kids rest = omega (arith, compr_room_node N at 13 v kids rest, total_ones (collect N looping kids))
 
-pub fnRoom-others : (N : Names) (k : ℕ) → (k ≡ 6 → ⊥) → (k ≡ 12 → ⊥) → (at v : ℕ) (kids rest : Forest) → fnRoom N (node at k v kids rest) ≡ fnRoom N kids + fnRoom N rest
+pub fn_room_others : (N : Names) (k : ℕ) → (k ≡ 6 → ⊥) → (k ≡ 12 → ⊥) → (at v : ℕ) (kids rest : Forest) → fn_room N (node at k v kids rest) ≡ fn_room N kids + fn_room N rest
 unfolding when total
-fnRoom-others N k a b at v kids rest = fnRoom-node N at k v kids rest ∙ (rw (no_fn k a b) (omega arith))
+fn_room_others N k a b at v kids rest = fn_room_node N at k v kids rest ∙ (rw (no_fn k a b) (omega arith))
 
-pub comprRoom-others : (N : Names) (k : ℕ) → (k ≡ 13 → ⊥) → (at v : ℕ) (kids rest : Forest) → comprRoom N (node at k v kids rest) ≡ comprRoom N kids + comprRoom N rest
+pub compr_room_others : (N : Names) (k : ℕ) → (k ≡ 13 → ⊥) → (at v : ℕ) (kids rest : Forest) → compr_room N (node at k v kids rest) ≡ compr_room N kids + compr_room N rest
 unfolding when total
-comprRoom-others N k a at v kids rest = comprRoom-node N at k v kids rest ∙ (rw (no-compr k a) (omega arith))
+compr_room_others N k a at v kids rest = compr_room_node N at k v kids rest ∙ (rw (no_compr k a) (omega arith))
 
 -- walk two fills no more than the functions' room, walk three no more than the comprehensions'
-pub declare-made : (N : Names) (f : Forest) (x : List Row × St) → length (declare N f x).1.made ≤ length x.1.made + fnRoom N f
-unfolding fnRoom
-declare-made N f x = omega (arith, declare-size (λ x. 1) (λ x. 0) _ (made-sized (λ x. 1) (λ b. 1) (λ s v st. refl)) N f x, total-ones (declare N f x).1.made, total-ones x.1.made)
+pub declare_made : (N : Names) (f : Forest) (x : List Row × St) → length (declare N f x).1.made ≤ length x.1.made + fn_room N f
+unfolding fn_room
+declare_made N f x = omega (arith, declare_size (λ x. 1) (λ x. 0) _ (made_sized (λ x. 1) (λ b. 1) (λ s v st. refl)) N f x, total_ones (declare N f x).1.made, total_ones x.1.made)
 
-pub declare-named : (N : Names) (f : Forest) (x : List Row × St) → length (declare N f x).1.named ≤ length x.1.named + fnRoom N f
-unfolding fnRoom
-declare-named N f x = omega (arith, declare-size (λ x. 1) (λ x. 0) _ (named-sized (λ x. 1)) N f x, total-ones (declare N f x).1.named, total-ones x.1.named)
+pub declare-named : (N : Names) (f : Forest) (x : List Row × St) → length (declare N f x).1.named ≤ length x.1.named + fn_room N f
+unfolding fn_room
+declare-named N f x = omega (arith, declare_size (λ x. 1) (λ x. 0) _ (named_sized (λ x. 1)) N f x, total_ones (declare N f x).1.named, total_ones x.1.named)
 
 module _ (N : Names) (D : ℕ → List Binding) (out : ℕ → Outer) (f : Forest) (c : Ctx) (st : St) where
-  pub walk-made : length (walk N D out f plain 0 [] true c st).made ≤ length st.made + comprRoom N f
-  unfolding comprRoom isCompr when total
-  walk-made = omega (
+  pub walk_made : length (walk N D out f plain 0 [] true c st).made ≤ length st.made + compr_room N f
+  unfolding compr_room is_compr when total
+  walk_made = omega (
     arith,
-    walk-size (λ x. 1) (λ x. 0) _ (made-sized (λ x. 1) (λ b. 1) (λ s v st. refl)) N D out f plain 0 [] true c st,
-    total-zeros (identsIn f),
-    total-ones (walk N D out f plain 0 [] true c st).made,
-    total-ones st.made,
+    walk_size (λ x. 1) (λ x. 0) _ (made_sized (λ x. 1) (λ b. 1) (λ s v st. refl)) N D out f plain 0 [] true c st,
+    total_zeros (idents_in f),
+    total_ones (walk N D out f plain 0 [] true c st).made,
+    total_ones st.made,
   )
 
-  pub walk-named : length (walk N D out f plain 0 [] true c st).named ≤ length st.named + comprRoom N f
-  unfolding comprRoom isCompr when total
-  walk-named = omega (
+  pub walk_named : length (walk N D out f plain 0 [] true c st).named ≤ length st.named + compr_room N f
+  unfolding compr_room is_compr when total
+  walk_named = omega (
     arith,
-    walk-size (λ x. 1) (λ x. 0) _ (named-sized (λ x. 1)) N D out f plain 0 [] true c st,
-    total-zeros (identsIn f),
-    total-ones (walk N D out f plain 0 [] true c st).named,
-    total-ones st.named,
+    walk_size (λ x. 1) (λ x. 0) _ (named_sized (λ x. 1)) N D out f plain 0 [] true c st,
+    total_zeros (idents_in f),
+    total_ones (walk N D out f plain 0 [] true c st).named,
+    total_ones st.named,
   )
 
 -- the three walks' room together
-pub room : (F : File) → Headed F.root → length (collect F.names unmarked F.root) + (fnRoom F.names F.root + comprRoom F.names F.root) ≤ length (namesIn F.root)
-unfolding fnRoom comprRoom
-room F h = omega (arith, counted (λ x. 1) F.names F.root unmarked h, total-ones (namesIn F.root), total-ones (collect F.names unmarked F.root))
+pub room : (F : File) → Headed F.root → length (collect F.names unmarked F.root) + (fn_room F.names F.root + compr_room F.names F.root) ≤ length (names_in F.root)
+unfolding fn_room compr_room
+room F h = omega (arith, counted (λ x. 1) F.names F.root unmarked h, total_ones (names_in F.root), total_ones (collect F.names unmarked F.root))
 
-pub room-nodes : (F : File) → length (collect F.names unmarked F.root) + (fnRoom F.names F.root + comprRoom F.names F.root) ≤ length (nodesIn F.root)
-unfolding fnRoom comprRoom
-room-nodes F = omega (arith, counted-nodes (λ x. 1) F.names F.root unmarked, total-ones (nodesIn F.root), total-ones (collect F.names unmarked F.root))
+pub room_nodes : (F : File) → length (collect F.names unmarked F.root) + (fn_room F.names F.root + compr_room F.names F.root) ≤ length (nodes_in F.root)
+unfolding fn_room compr_room
+room_nodes F = omega (arith, counted_nodes (λ x. 1) F.names F.root unmarked, total_ones (nodes_in F.root), total_ones (collect F.names unmarked F.root))
 
 -- before walk two and before walk three
-pub room-start : (F : File) → length (start F).made + (fnRoom F.names F.root + comprRoom F.names F.root) ≤ length F.entries + length (nodesIn F.root)
+pub room_start : (F : File) → length (start F).made + (fn_room F.names F.root + compr_room F.names F.root) ≤ length F.entries + length (nodes_in F.root)
 unfolding start
-room-start F = omega (arith, room-nodes F, module-length [] F.entries (moduleVars F), module-size F, total-ones (collect F.names unmarked F.root))
+room_start F = omega (arith, room_nodes F, module_length [] F.entries (module_vars F), module_size F, total_ones (collect F.names unmarked F.root))
 
-pub room-second : (F : File) → length (second F).1.made + comprRoom F.names F.root ≤ length F.entries + length (nodesIn F.root)
+pub room_second : (F : File) → length (second F).1.made + compr_room F.names F.root ≤ length F.entries + length (nodes_in F.root)
 unfolding second
-room-second F = omega (arith, room-start F, declare-made F.names F.root ([], start F))
+room_second F = omega (arith, room_start F, declare_made F.names F.root ([], start F))

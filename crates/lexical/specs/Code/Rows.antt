@@ -3,28 +3,28 @@ use Rattle.std.specs.Prelude.{◌≡◌, refl, List, [], ◌∷◌, ◌++◌, ma
 use Rattle.std.proofs.Common.{sym, ◌∙◌, ap, inl, inr, arith}
 use Rattle.std.proofs.Math.Option.{Option, none, some}
 use Rattle.std.proofs.Math.ListN.{get_elem?}
-use Rattle.lexical.specs.Lists.{map_o, or_else, none-some, eqb-self, eqb-true, Tested, was, wasnt, tested, Opened, absent, present, opened}
-use Rattle.lexical.specs.Places.{Distinct, first-has, In, paired}
+use Rattle.lexical.specs.Lists.{map_o, or_else, none-some, eqb_self, eqb-true, Tested, was, wasnt, tested, Opened, absent, present, opened}
+use Rattle.lexical.specs.Places.{Distinct, first_has, In, paired}
 use Rattle.lexical.specs.Sums.{one, total, times, total-map}
-use Rattle.lexical.specs.Tree.{nodesIn, plain, namesIn}
+use Rattle.lexical.specs.Tree.{nodes_in, plain, names_in}
 use Rattle.lexical.specs.Table.{Headed, Tidy}
 use Rattle.lexical.specs.Binders.{Target, collect, unmarked}
 use Rattle.lexical.specs.Module.{File}
 use Rattle.lexical.specs.Meaning.{declares}
-use Rattle.lexical.specs.Order.{steps, blocks, fnBlocks, blockNames, allNames}
+use Rattle.lexical.specs.Order.{steps, blocks, fn_blocks, block_names, all_names}
 use Rattle.lexical.specs.State.{Event, Binding, Named}
 use Rattle.lexical.specs.Third.{resolved}
-use Rattle.lexical.specs.Claims.{NameRow, nameView, Scoped, moduleNames}
-use Rattle.lexical.specs.Code.Capacity.{names-idents, named-size}
-use Rattle.lexical.specs.Code.Whole.{named-all}
-use Rattle.lexical.specs.Proof.Captured.{one-once}
-use Rattle.lexical.specs.Proof.Last.{told-all}
-use Rattle.lexical.specs.Proof.Nodes.{idents-all}
+use Rattle.lexical.specs.Claims.{NameRow, name_view, Scoped, module_names}
+use Rattle.lexical.specs.Code.Capacity.{names_idents, named_size}
+use Rattle.lexical.specs.Code.Whole.{named_all}
+use Rattle.lexical.specs.Proof.Captured.{one_once}
+use Rattle.lexical.specs.Proof.Last.{told_all}
+use Rattle.lexical.specs.Proof.Nodes.{idents_all}
 
 -- a target's name is declared among its block's targets
-pub declares-has : (ts : List Target) (j : ℕ) (t : Target) → get_elem? ts j ≡ some t → declares t.name ts ≡ none → ⊥
+pub declares_has : (ts : List Target) (j : ℕ) (t : Target) → get_elem? ts j ≡ some t → declares t.name ts ≡ none → ⊥
 unfolding declares
-declares-has ts j t e n = first-has (λ (x : Target). eqb x.name t.name) ts j t e (eqb-self t.name) (empty_of _ n)
+declares_has ts j t e n = first_has (λ (x : Target). eqb x.name t.name) ts j t e (eqb_self t.name) (empty_of _ n)
   where
     empty_of : (o : Option Target) → map_o (λ (t : Target). t.node) o ≡ none → o ≡ none
     empty_of none e = refl
@@ -34,10 +34,10 @@ unfoldable Full : List (ℕ × Option ℕ) → Type 0
 Full [] = Unit {0}
 Full (p ∷ l) = (p.1 ≡ none → ⊥) × Full l
 
-full-append : (xs ys : List (ℕ × Option ℕ)) → Full xs → Full ys → Full (xs ++ ys)
+full_append : (xs ys : List (ℕ × Option ℕ)) → Full xs → Full ys → Full (xs ++ ys)
 unfolding Full
-full-append [] ys a b = b
-full-append (x ∷ xs) ys a b = (a.0, full-append xs ys a.1 b)
+full_append [] ys a b = b
+full_append (x ∷ xs) ys a b = (a.0, full_append xs ys a.1 b)
 
 full_at : (l : List (ℕ × Option ℕ)) (j : ℕ) (p : ℕ × Option ℕ) → Full l → get_elem? l j ≡ some p → p.1 ≡ none → ⊥
 unfolding Full
@@ -50,14 +50,14 @@ unfolding Full
 full-map o [] h = tt
 full-map o (t ∷ us) h = (h zero t refl, full-map o us (λ j x e n. h (suc j) x e n))
 
-full-names : (tss : List (List Target)) → Full (allNames tss)
-unfolding allNames blockNames
-full-names [] = unfold Full in tt
-full-names (ts ∷ tss) = full-append _ (allNames tss) (full-map (λ t. declares t.name ts) ts (declares-has ts)) (full-names tss)
+full_names : (tss : List (List Target)) → Full (all_names tss)
+unfolding all_names block_names
+full_names [] = unfold Full in tt
+full_names (ts ∷ tss) = full_append _ (all_names tss) (full-map (λ t. declares t.name ts) ts (declares_has ts)) (full_names tss)
 
-full-module : (F : File) → Full (moduleNames F)
-unfolding moduleNames
-full-module F = full-map _ (collect F.names unmarked F.root) (λ j t e n. declares-has (collect F.names unmarked F.root) j t e (neither _ _ n))
+full_module : (F : File) → Full (module_names F)
+unfolding module_names
+full_module F = full-map _ (collect F.names unmarked F.root) (λ j t e n. declares_has (collect F.names unmarked F.root) j t e (neither _ _ n))
   where
     neither : (x y : Option ℕ) → or_else x y ≡ none → y ≡ none
     neither none y e = unfold or_else in e
@@ -65,29 +65,29 @@ full-module F = full-map _ (collect F.names unmarked F.root) (λ j t e n. declar
 
 -- the binding of every Name that stands in a block is there
 pub named_some : (F : File) → Scoped F → (j : ℕ) (x : Named) → get_elem? (resolved F).named j ≡ some x → (b : Binding) × (x.of ≡ some b)
-named_some F ok j x e = go (opened x.of) (paired nameView (λ (p : ℕ × Option ℕ). p) (resolved F).named told ((told-all F ok).titles ∙ same told) j x e)
+named_some F ok j x e = go (opened x.of) (paired name_view (λ (p : ℕ × Option ℕ). p) (resolved F).named told ((told_all F ok).titles ∙ same told) j x e)
   where
     told : List (ℕ × Option ℕ)
-    told = (moduleNames F ++ allNames (fnBlocks F.names F.root)) ++ allNames (blocks (steps F.names F.root plain 0 [] true []))
+    told = (module_names F ++ all_names (fn_blocks F.names F.root)) ++ all_names (blocks (steps F.names F.root plain 0 [] true []))
 
     same : (l : List (ℕ × Option ℕ)) → l ≡ map (λ (p : ℕ × Option ℕ). p) l
     same [] = refl
     same (p ∷ l) = ap (λ r. p ∷ r) (same l)
 
     all : Full told
-    all = full-append _ _ (full-append _ _ (full-module F) (full-names _)) (full-names _)
+    all = full_append _ _ (full_append _ _ (full_module F) (full_names _)) (full_names _)
 
-    missing : x.of ≡ none → (nameView x).1 ≡ none
-    missing q = unfold nameView map_o in (rw q refl)
+    missing : x.of ≡ none → (name_view x).1 ≡ none
+    missing q = unfold name_view map_o in (rw q refl)
 
-    go : Opened x.of → (y : ℕ × Option ℕ) × (get_elem? told j ≡ some y) × (nameView x ≡ y) → (b : Binding) × (x.of ≡ some b)
+    go : Opened x.of → (y : ℕ × Option ℕ) × (get_elem? told j ≡ some y) × (name_view x ≡ y) → (b : Binding) × (x.of ≡ some b)
     go (present b q) r = (b, q)
     go (absent q) (y, z, m) = absurd (full_at told j y all z (sym (ap (λ (p : ℕ × Option ℕ). p.1) m) ∙ missing q))
 
 -- a weight that counts a number finds it
 one_in : (x : ℕ) (l : List ℕ) → In x l → 1 ≤ total (one x) l
 unfolding total one
-one_in x (y ∷ l) (inl e) = rw (← e, eqb-self x) (omega arith)
+one_in x (y ∷ l) (inl e) = rw (← e, eqb_self x) (omega arith)
 one_in x (y ∷ l) (inr m) = omega (arith, one_in x l m)
 
 one_found : (x : ℕ) (l : List Named) → 1 ≤ total (λ (y : Named). one x y.node) l → (j : ℕ) × (y : Named) × (get_elem? l j ≡ some y) × (y.node ≡ x)
@@ -100,19 +100,19 @@ one_found x (y ∷ l) h = go (tested (eqb x y.node)) h (λ z. one_found x l z)
     go (was e) h rec = (zero, y, refl, sym (eqb-true x y.node e))
     go (wasnt e) h rec = let k : 1 ≤ 0 + total (λ (y : Named). cond (eqb x y.node) 1 0) l = rw e at h in let r = rec (omega arith) in (suc r.0, r.1, r.2, r.3)
 
-pub named-every : (F : File) → Scoped F → Tidy F.root → (x : ℕ) → In x (namesIn F.root) → NameRow F x
-named-every F ok h x m = go (one_found x (resolved F).named (omega (arith, named-all F ok h (one x), one_in x (namesIn F.root) m)))
+pub named-every : (F : File) → Scoped F → Tidy F.root → (x : ℕ) → In x (names_in F.root) → NameRow F x
+named-every F ok h x m = go (one_found x (resolved F).named (omega (arith, named_all F ok h (one x), one_in x (names_in F.root) m)))
   where
     go : (j : ℕ) × (y : Named) × (get_elem? (resolved F).named j ≡ some y) × (y.node ≡ x) → NameRow F x
     go (j, y, e, q) = let b = named_some F ok j y e in record { place = j; row = y; stands = e; of_node = q; binding = b.0; bound = b.1 }
 
 -- a node has one row at most, among the Names' and the lookups' together: so a buffer by node holds them
-pub node-once : (F : File) → Scoped F → Headed F.root → Distinct (nodesIn F.root) → (x : ℕ) → times x (map (λ (n : Named). n.node) (resolved F).named) + times x (map (λ (e : Event). e.node) (resolved F).log) ≤ 1
-node-once F ok h d x = omega (
+pub node_once : (F : File) → Scoped F → Headed F.root → Distinct (nodes_in F.root) → (x : ℕ) → times x (map (λ (n : Named). n.node) (resolved F).named) + times x (map (λ (e : Event). e.node) (resolved F).log) ≤ 1
+node_once F ok h d x = omega (
   arith,
   total-map (one x) (λ (n : Named). n.node) (resolved F).named,
-  named-size (one x) F h,
-  idents-all F ok x,
-  names-idents (one x) F.root,
-  one-once x (nodesIn F.root) d,
+  named_size (one x) F h,
+  idents_all F ok x,
+  names_idents (one x) F.root,
+  one_once x (nodes_in F.root) d,
 )

@@ -3,29 +3,29 @@ use Rattle.std.specs.Prelude.{◌≡◌, List, [], ◌∷◌, ◌++◌, ◌&&◌
 use Rattle.std.proofs.Math.Path.{refl}
 use Rattle.std.proofs.Common.{sym, subst, append_assoc, append-nil}
 use Rattle.std.proofs.Math.Bool.{true, false}
-use Rattle.lexical.specs.Lists.{either, first, if-both, If, if-map}
-use Rattle.lexical.specs.Tree.{isLook, when, isFn, turn, Forest, nil, node, empty, Way, plain, look, fn, compr, clause, type, way, top}
+use Rattle.lexical.specs.Lists.{either, first, if_both, If, if_map}
+use Rattle.lexical.specs.Tree.{is_look, when, is_fn, turn, Forest, nil, node, empty, Way, plain, look, fn, compr, clause, type, way, top}
 use Rattle.lexical.specs.Binders.{Names, Target, targets}
 use Rattle.lexical.specs.Module.{Outer}
 use Rattle.lexical.specs.Meaning.{Around, around, reach}
-use Rattle.lexical.specs.Order.{Step, ident, opens, siteHere, arranged, steps}
+use Rattle.lexical.specs.Order.{Step, ident, opens, site_here, arranged, steps}
 use Rattle.lexical.specs.State.{Binding, St, Ctx}
 use Rattle.lexical.specs.Block.{called, block}
-use Rattle.lexical.specs.Third.{lookFound, enter, inner, typed, below, lookUp, order, walk}
+use Rattle.lexical.specs.Third.{look_found, enter, inner, typed, below, look_up, order, walk}
 
-unfoldable pub innerScope : Way → ℕ → Bool → ℕ → ℕ
-innerScope w s l o = cond (isFn w && l) s o
+unfoldable pub inner_scope : Way → ℕ → Bool → ℕ → ℕ
+inner_scope w s l o = cond (is_fn w && l) s o
 
 -- G o s ts: of a Def or Lambda with scope s and targets ts directly in scope o
 unfoldable pub Good : (ℕ → ℕ → List Target → Type 0) → Way → ℕ → ℕ → List Target → Type 0
-Good G w o s ts = If (isFn w) (G o s ts)
+Good G w o s ts = If (is_fn w) (G o s ts)
 
 -- G of all of them among the children of a node w, s in scope o
 unfoldable pub AllFn : Names → (ℕ → ℕ → List Target → Type 0) → Forest → Way → ℕ → ℕ → Type 0
 AllFn N G nil w s o = Unit {0}
 AllFn N G (node at k v kids rest) w s o =
-    Good G (way k) (innerScope w s (empty rest) o) v (targets N k kids)
-    × AllFn N G kids (way k) v (innerScope w s (empty rest) o)
+    Good G (way k) (inner_scope w s (empty rest) o) v (targets N k kids)
+    × AllFn N G kids (way k) v (inner_scope w s (empty rest) o)
     × AllFn N G rest w s o
 
 abbrev pub Keeps : (Ctx → List Around → St → Type 0) → St → St → Type 0
@@ -42,7 +42,7 @@ pub record Laws (N : Names) (D : ℕ → List Binding) (out : ℕ → Outer)
   pub into : (s : ℕ) (ts : List Target) (f : Bool) (c : Ctx) (up : List Around) (st : St) (acc : List Step) → J st acc → G (top c.scopes) s ts
       → F c (around fn s ts f false ∷ up) st → F (enter s (D s) c) (around fn s ts f true ∷ up) st
   pub scan : (at n : ℕ) (c : Ctx) (up : List Around) (st : St) (acc : List Step) → J st acc → F c up st
-      → Post J F st acc (lookFound (first (called n) c.env) (out n) at n c st) (ident (record { node = at; name = n; above = up }) ∷ [])
+      → Post J F st acc (look_found (first (called n) c.env) (out n) at n c st) (ident (record { node = at; name = n; above = up }) ∷ [])
   pub binds : (s : ℕ) (ts : List Target) (c : Ctx) (up : List Around) (st : St) (acc : List Step) → J st acc → F c (around compr s ts true false ∷ up) st
       → J (block (top c.scopes) ts st).1 (acc ++ (opens ts ∷ []))
       × Keeps F st (block (top c.scopes) ts st).1
@@ -58,9 +58,9 @@ module _ (N : Names) (D : ℕ → List Binding) (out : ℕ → Outer)
   and_then acc a b p q = (rw append_assoc at q.0, λ c up h. q.1 c up (p.1 c up h))
 
   looked : (w : Way) (at v : ℕ) (c : Ctx) (up : List Around) (st : St) (acc : List Step) → J st acc → F c up st
-      → Post J F st acc (lookUp N D out w at v c st) (siteHere w at v up)
-  unfolding lookUp siteHere when
-  looked w at v c up st acc j h = either (isLook w) (λ b. Post J F st acc (cond b (lookFound (first (called v) c.env) (out v) at v c st) st) (when b (ident (record { node = at; name = v; above = up }))))
+      → Post J F st acc (look_up N D out w at v c st) (site_here w at v up)
+  unfolding look_up site_here when
+  looked w at v c up st acc j h = either (is_look w) (λ b. Post J F st acc (cond b (look_found (first (called v) c.env) (out v) at v c st) st) (when b (ident (record { node = at; name = v; above = up }))))
       (L.scan at v c up st acc j h) (stay st acc j)
 
   -- what the walk of a child, and of the children after it, is to give
@@ -75,9 +75,9 @@ module _ (N : Names) (D : ℕ → List Binding) (out : ℕ → Outer)
       and_then acc a b p (n c (here c st) (acc ++ a) t p.0 (L.turn w s ts f false false false c up (here c st) e' (p.1 c (around w s ts f false ∷ up) fit)))
 
   ordered : (w : Way) (s : ℕ) (ts : List Target) (f l : Bool) (up : List Around) (o : ℕ) (here next : Ctx → St → St) (a b : List Step)
-      → Good G w o s ts → Run w s ts f l up (innerScope w s l o) here a → Run w s ts false false up o next b
+      → Good G w o s ts → Run w s ts f l up (inner_scope w s l o) here a → Run w s ts false false up o next b
       → Run w s ts f false up o (order N D out (turn w f l) s ts here next) (arranged (turn w f l) ts a b)
-  unfolding order turn arranged Good innerScope isFn reach top enter inner
+  unfolding order turn arranged Good inner_scope is_fn reach top enter inner
   ordered plain s ts f l up o here next a b g h n = in_turn plain s ts f l up o here next a b refl refl h n
   ordered look s ts f l up o here next a b g h n = in_turn look s ts f l up o here next a b refl refl h n
   ordered type s ts f l up o here next a b g h n = in_turn type s ts f l up o here next a b refl refl h n
@@ -104,35 +104,35 @@ module _ (N : Names) (D : ℕ → List Binding) (out : ℕ → Outer)
   walked nil w s ts b up o all g = λ c st acc t j fit. stay st acc j
   walked (node at k v kids rest) w s ts b up o all g =
       ordered w s ts b (empty rest) up o
-      (λ c st. walk N D out kids (way k) v (targets N k kids) true (below (way k) c) (lookUp N D out (way k) at v c st))
+      (λ c st. walk N D out kids (way k) v (targets N k kids) true (below (way k) c) (look_up N D out (way k) at v c st))
       (λ c st. walk N D out rest w s ts false c st) _ _ g
       (λ c st acc t j fit.
       let here = around w s ts b (empty rest) ∷ up in
       let p = looked (way k) at v c here st acc j fit in
-      and_then acc (siteHere (way k) at v here) _ p (walked kids (way k) v (targets N k kids) true here (innerScope w s (empty rest) o) all.1 all.0
-      (below (way k) c) (lookUp N D out (way k) at v c st) (acc ++ siteHere (way k) at v here) t p.0
+      and_then acc (site_here (way k) at v here) _ p (walked kids (way k) v (targets N k kids) true here (inner_scope w s (empty rest) o) all.1 all.0
+      (below (way k) c) (look_up N D out (way k) at v c st) (acc ++ site_here (way k) at v here) t p.0
       (L.push (way k) v (targets N k kids) c here _ (p.1 c here fit))))
       (walked rest w s ts false up o all.2 g)
 
-pub good-map : (G H : ℕ → ℕ → List Target → Type 0) → ((o s : ℕ) (ts : List Target) → G o s ts → H o s ts)
+pub good_map : (G H : ℕ → ℕ → List Target → Type 0) → ((o s : ℕ) (ts : List Target) → G o s ts → H o s ts)
     → (w : Way) (o s : ℕ) (ts : List Target) → Good G w o s ts → Good H w o s ts
 unfolding Good
-good-map G H h w o s ts g = if-map (isFn w) (h o s ts) g
+good_map G H h w o s ts g = if_map (is_fn w) (h o s ts) g
 
-pub allFn-map : (N : Names) (G H : ℕ → ℕ → List Target → Type 0) → ((o s : ℕ) (ts : List Target) → G o s ts → H o s ts)
+pub all_fn_map : (N : Names) (G H : ℕ → ℕ → List Target → Type 0) → ((o s : ℕ) (ts : List Target) → G o s ts → H o s ts)
     → (f : Forest) (w : Way) (s o : ℕ) → AllFn N G f w s o → AllFn N H f w s o
 unfolding AllFn
-allFn-map N G H h nil w s o a = tt
-allFn-map N G H h (node at k v kids rest) w s o a =
-    (good-map G H h (way k) _ v (targets N k kids) a.0, allFn-map N G H h kids (way k) v _ a.1, allFn-map N G H h rest w s o a.2)
+all_fn_map N G H h nil w s o a = tt
+all_fn_map N G H h (node at k v kids rest) w s o a =
+    (good_map G H h (way k) _ v (targets N k kids) a.0, all_fn_map N G H h kids (way k) v _ a.1, all_fn_map N G H h rest w s o a.2)
 
-good-both : (G H : ℕ → ℕ → List Target → Type 0) (w : Way) (o s : ℕ) (ts : List Target) → Good G w o s ts → Good H w o s ts → Good (λ o s ts. G o s ts × H o s ts) w o s ts
+good_both : (G H : ℕ → ℕ → List Target → Type 0) (w : Way) (o s : ℕ) (ts : List Target) → Good G w o s ts → Good H w o s ts → Good (λ o s ts. G o s ts × H o s ts) w o s ts
 unfolding Good
-good-both G H w o s ts g h = if-both _ _ (isFn w) g h
+good_both G H w o s ts g h = if_both _ _ (is_fn w) g h
 
-pub allFn-both : (N : Names) (G H : ℕ → ℕ → List Target → Type 0) (f : Forest) (w : Way) (s o : ℕ)
+pub all_fn_both : (N : Names) (G H : ℕ → ℕ → List Target → Type 0) (f : Forest) (w : Way) (s o : ℕ)
     → AllFn N G f w s o → AllFn N H f w s o → AllFn N (λ o s ts. G o s ts × H o s ts) f w s o
 unfolding AllFn
-allFn-both N G H nil w s o a b = tt
-allFn-both N G H (node at k v kids rest) w s o a b =
-    (good-both G H (way k) _ v (targets N k kids) a.0 b.0, allFn-both N G H kids (way k) v _ a.1 b.1, allFn-both N G H rest w s o a.2 b.2)
+all_fn_both N G H nil w s o a b = tt
+all_fn_both N G H (node at k v kids rest) w s o a b =
+    (good_both G H (way k) _ v (targets N k kids) a.0 b.0, all_fn_both N G H kids (way k) v _ a.1 b.1, all_fn_both N G H rest w s o a.2 b.2)

@@ -2,7 +2,7 @@
 use Rattle.std.proofs.Common.{sym, ◌∙◌, arith}
 use Rattle.std.specs.Prelude.{◌≡◌, refl, false, ◌||◌, ◌≤◌, ℕ, zero, suc, ◌<◌, eqb}
 use Rattle.lexical.specs.Lists.{eqb-not}
-use Rattle.lexical.specs.Tree.{plain, way, isLook, isFn, isCompr, Pick, through, shut, head, name, loop, load, param, pick, isName}
+use Rattle.lexical.specs.Tree.{plain, way, is_look, is_fn, is_compr, Pick, through, shut, head, name, loop, load, param, pick, is_name}
 
 -- a law of numbers, by its first n cases and the rest
 abbrev pub Cases : ℕ → (ℕ → Type 0) → Type 0
@@ -24,34 +24,34 @@ far k n h = eqb-not (beyond k) n (λ e. omega arith)
 neither : (k m n : ℕ) → (k ≡ m → ⊥) → (k ≡ n → ⊥) → (eqb k m || eqb k n) ≡ false
 neither k m n a b = rw (eqb-not k m a, eqb-not k n b) refl
 
-pub fn-kind : (k : ℕ) → isFn (way k) ≡ (eqb k 6 || eqb k 12)
-unfolding way isFn
-fn-kind = by_cases 19 (λ k. isFn (way k) ≡ (eqb k 6 || eqb k 12)) (refl, (refl, (refl, (refl, (refl, (refl, (refl, (refl, (refl, (refl, (refl, (refl, (refl, (refl, (refl, (refl, (refl, (refl, (refl, λ k. sym (neither (beyond k) 6 12 (λ e. omega arith) (λ e. omega arith)))))))))))))))))))))
+pub fn_kind : (k : ℕ) → is_fn (way k) ≡ (eqb k 6 || eqb k 12)
+unfolding way is_fn
+fn_kind = by_cases 19 (λ k. is_fn (way k) ≡ (eqb k 6 || eqb k 12)) (refl, (refl, (refl, (refl, (refl, (refl, (refl, (refl, (refl, (refl, (refl, (refl, (refl, (refl, (refl, (refl, (refl, (refl, (refl, λ k. sym (neither (beyond k) 6 12 (λ e. omega arith) (λ e. omega arith)))))))))))))))))))))
 
-pub compr-kind : (k : ℕ) → isCompr (way k) ≡ eqb k 13
-unfolding way isCompr
-compr-kind = by_cases 19 (λ k. isCompr (way k) ≡ eqb k 13) (refl, (refl, (refl, (refl, (refl, (refl, (refl, (refl, (refl, (refl, (refl, (refl, (refl, (refl, (refl, (refl, (refl, (refl, (refl, λ k. sym (far k 13 (omega arith)))))))))))))))))))))
+pub compr_kind : (k : ℕ) → is_compr (way k) ≡ eqb k 13
+unfolding way is_compr
+compr_kind = by_cases 19 (λ k. is_compr (way k) ≡ eqb k 13) (refl, (refl, (refl, (refl, (refl, (refl, (refl, (refl, (refl, (refl, (refl, (refl, (refl, (refl, (refl, (refl, (refl, (refl, (refl, λ k. sym (far k 13 (omega arith)))))))))))))))))))))
 
-pub look-kind : (k : ℕ) → isLook (way k) ≡ eqb k 11
-unfolding way isLook
-look-kind = by_cases 19 (λ k. isLook (way k) ≡ eqb k 11) (refl, (refl, (refl, (refl, (refl, (refl, (refl, (refl, (refl, (refl, (refl, (refl, (refl, (refl, (refl, (refl, (refl, (refl, (refl, λ k. sym (far k 11 (omega arith)))))))))))))))))))))
+pub look_kind : (k : ℕ) → is_look (way k) ≡ eqb k 11
+unfolding way is_look
+look_kind = by_cases 19 (λ k. is_look (way k) ≡ eqb k 11) (refl, (refl, (refl, (refl, (refl, (refl, (refl, (refl, (refl, (refl, (refl, (refl, (refl, (refl, (refl, (refl, (refl, (refl, (refl, λ k. sym (far k 11 (omega arith)))))))))))))))))))))
 
-pub name-kind : (k : ℕ) → isName (pick k) ≡ eqb k 8
-unfolding pick isName
-name-kind = by_cases 19 (λ k. isName (pick k) ≡ eqb k 8) (refl, (refl, (refl, (refl, (refl, (refl, (refl, (refl, (refl, (refl, (refl, (refl, (refl, (refl, (refl, (refl, (refl, (refl, (refl, λ k. sym (far k 8 (omega arith)))))))))))))))))))))
+pub name_kind : (k : ℕ) → is_name (pick k) ≡ eqb k 8
+unfolding pick is_name
+name_kind = by_cases 19 (λ k. is_name (pick k) ≡ eqb k 8) (refl, (refl, (refl, (refl, (refl, (refl, (refl, (refl, (refl, (refl, (refl, (refl, (refl, (refl, (refl, (refl, (refl, (refl, (refl, λ k. sym (far k 8 (omega arith)))))))))))))))))))))
 
 -- the kinds that are no function, no comprehension, no Ident, no Name
-pub no_fn : (k : ℕ) → (k ≡ 6 → ⊥) → (k ≡ 12 → ⊥) → isFn (way k) ≡ false
-no_fn k a b = fn-kind k ∙ neither k 6 12 a b
+pub no_fn : (k : ℕ) → (k ≡ 6 → ⊥) → (k ≡ 12 → ⊥) → is_fn (way k) ≡ false
+no_fn k a b = fn_kind k ∙ neither k 6 12 a b
 
-pub no-compr : (k : ℕ) → (k ≡ 13 → ⊥) → isCompr (way k) ≡ false
-no-compr k a = compr-kind k ∙ eqb-not k 13 a
+pub no_compr : (k : ℕ) → (k ≡ 13 → ⊥) → is_compr (way k) ≡ false
+no_compr k a = compr_kind k ∙ eqb-not k 13 a
 
-pub no-look : (k : ℕ) → (k ≡ 11 → ⊥) → isLook (way k) ≡ false
-no-look k a = look-kind k ∙ eqb-not k 11 a
+pub no_look : (k : ℕ) → (k ≡ 11 → ⊥) → is_look (way k) ≡ false
+no_look k a = look_kind k ∙ eqb-not k 11 a
 
-pub no_name : (k : ℕ) → (k ≡ 8 → ⊥) → isName (pick k) ≡ false
-no_name k a = name-kind k ∙ eqb-not k 8 a
+pub no_name : (k : ℕ) → (k ≡ 8 → ⊥) → is_name (pick k) ≡ false
+no_name k a = name_kind k ∙ eqb-not k 8 a
 
 -- goes through to its children's targets, marked or not
 unfoldable pub Simple : Pick → Type 0

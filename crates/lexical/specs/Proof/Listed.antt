@@ -5,18 +5,18 @@ use Rattle.std.proofs.Common.{◌∙◌}
 use mathlib.Core.List.{◌++◌, map, map-append}
 use Rattle.std.proofs.Math.Bool.{true, false}
 use native.Mathlib.Omega.{arith}
-use Rattle.lexical.specs.Sums.{total, total-append}
-use Rattle.lexical.specs.Tree.{Forest, nil, node, when, listed, nodesIn}
+use Rattle.lexical.specs.Sums.{total, total_append}
+use Rattle.lexical.specs.Tree.{Forest, nil, node, when, listed, nodes_in}
 
 module _ {A : Type 0} (p : ℕ → Bool) (g : ℕ → ℕ → ℕ → Forest → A) where
   pub listed-total : (u : A → ℕ) (at k v : ℕ) (kids rest : Forest) → total u (listed p g (node at k v kids rest)) ≡ total u (when (p k) (g at k v kids)) + (total u (listed p g kids) + total u (listed p g rest))
   unfolding listed
-  listed-total u at k v kids rest = omega (arith, total-append u (when (p k) (g at k v kids)) (listed p g kids ++ listed p g rest), total-append u (listed p g kids) (listed p g rest))
+  listed-total u at k v kids rest = omega (arith, total_append u (when (p k) (g at k v kids)) (listed p g kids ++ listed p g rest), total_append u (listed p g kids) (listed p g rest))
 
   -- at a node that does not pass the test
-  pub listed-no : (k : ℕ) → p k ≡ false → (at v : ℕ) (kids rest : Forest) → listed p g (node at k v kids rest) ≡ listed p g kids ++ listed p g rest
+  pub listed_no : (k : ℕ) → p k ≡ false → (at v : ℕ) (kids rest : Forest) → listed p g (node at k v kids rest) ≡ listed p g kids ++ listed p g rest
   unfolding listed when
-  listed-no k e at v kids rest = rw e refl
+  listed_no k e at v kids rest = rw e refl
 
   pub listed-map : {B : Type 0} (h : A → B) (f : Forest) → map h (listed p g f) ≡ listed p (λ at k v kids. h (g at k v kids)) f
   unfolding listed when
@@ -30,8 +30,8 @@ module _ {A : Type 0} (p : ℕ → Bool) (g : ℕ → ℕ → ℕ → Forest →
 -- of two tests that no kind passes both, the nodes that pass weigh no more than all
 pub listed-apart : {A B : Type 0} (p q : ℕ → Bool) (g : ℕ → ℕ → ℕ → Forest → A) (h : ℕ → ℕ → ℕ → Forest → B) (u : A → ℕ) (w : B → ℕ) (t : ℕ → ℕ)
     → ((at k v : ℕ) (kids : Forest) → total u (when (p k) (g at k v kids)) + total w (when (q k) (h at k v kids)) ≤ t at)
-    → (f : Forest) → total u (listed p g f) + total w (listed q h f) ≤ total t (nodesIn f)
-unfolding nodesIn total when
+    → (f : Forest) → total u (listed p g f) + total w (listed q h f) ≤ total t (nodes_in f)
+unfolding nodes_in total when
 listed-apart p q g h u w t le nil = unfold listed in omega arith
 listed-apart p q g h u w t le (node at k v kids rest) = omega (
   arith,

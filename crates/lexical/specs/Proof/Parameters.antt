@@ -9,15 +9,15 @@ use Rattle.std.proofs.Math.ListN.{length}
 use Rattle.lexical.specs.Lists.{eqb-true, eqb-false, eqb-not, Tested, was, wasnt, tested}
 use Rattle.lexical.specs.Places.{In, Distinct, disjoint}
 use Rattle.lexical.specs.Tree.{Forest, nil, node, empty, after, pick, shut, params}
-use Rattle.lexical.specs.Table.{Exprs, Item, one, opt, many, row, within, headIn, dropOne, dropMany, is_empty, matches, allowed, kinds, Tabled, ownName, paramNames}
-use Rattle.lexical.specs.Binders.{Names, Marks, Target, target, collect, unmarked, targets, Var, titles, newVar, note, merge}
+use Rattle.lexical.specs.Table.{Exprs, Item, one, opt, many, row, within, head_in, drop_one, drop_many, is_empty, matches, allowed, kinds, Tabled, own_name, param_names}
+use Rattle.lexical.specs.Binders.{Names, Marks, Target, target, collect, unmarked, targets, Var, titles, new_var, note, merge}
 use Rattle.lexical.specs.Claims.{ParamsFirst}
-use Rattle.lexical.specs.Code.Collect.{collect-name, collect-param, merge-append, asParam}
+use Rattle.lexical.specs.Code.Collect.{collect_name, collect_param, merge_append, as_param}
 use Rattle.lexical.specs.Code.Notes.{note-new}
-use Rattle.lexical.specs.Code.Whole.{exprs-none}
+use Rattle.lexical.specs.Code.Whole.{exprs_none}
 use Rattle.lexical.specs.Proof.Apart.{noted}
 use Rattle.lexical.specs.Proof.Slots.{both_true}
-use Rattle.lexical.specs.Proof.Tabled.{in-range, expr-shut}
+use Rattle.lexical.specs.Proof.Tabled.{in_range, expr_shut}
 
 -- every child is of the kinds of some place of the row
 abbrev Among : List Item → ℕ → Type 0
@@ -26,21 +26,21 @@ Among (one lo hi ∷ is) k = ((lo ≤ k) × (k ≤ hi)) ⊎ Among is k
 Among (opt lo hi ∷ is) k = ((lo ≤ k) × (k ≤ hi)) ⊎ Among is k
 Among (many lo hi ∷ is) k = ((lo ≤ k) × (k ≤ hi)) ⊎ Among is k
 
-dropped-one : (lo hi k : ℕ) (ks : List ℕ) → In k ks → ((lo ≤ k) × (k ≤ hi)) ⊎ In k (dropOne lo hi ks)
-unfolding dropOne
-dropped-one lo hi k (x ∷ ks) m = go (tested (within lo hi x)) m
+dropped_one : (lo hi k : ℕ) (ks : List ℕ) → In k ks → ((lo ≤ k) × (k ≤ hi)) ⊎ In k (drop_one lo hi ks)
+unfolding drop_one
+dropped_one lo hi k (x ∷ ks) m = go (tested (within lo hi x)) m
   where
     go : Tested (within lo hi x) → (k ≡ x) ⊎ In k ks → ((lo ≤ k) × (k ≤ hi)) ⊎ In k (cond (within lo hi x) ks (x ∷ ks))
-    go (was t) (inl e) = inl (rw e (in-range lo hi x t))
+    go (was t) (inl e) = inl (rw e (in_range lo hi x t))
     go (was t) (inr z) = inr (rw t z)
     go (wasnt t) z = inr (rw t z)
 
-dropped-many : (lo hi k : ℕ) (ks : List ℕ) → In k ks → ((lo ≤ k) × (k ≤ hi)) ⊎ In k (dropMany lo hi ks)
-unfolding dropMany
-dropped-many lo hi k (x ∷ ks) m = go (tested (within lo hi x)) m (λ z. dropped-many lo hi k ks z)
+dropped_many : (lo hi k : ℕ) (ks : List ℕ) → In k ks → ((lo ≤ k) × (k ≤ hi)) ⊎ In k (drop_many lo hi ks)
+unfolding drop_many
+dropped_many lo hi k (x ∷ ks) m = go (tested (within lo hi x)) m (λ z. dropped_many lo hi k ks z)
   where
-    go : Tested (within lo hi x) → (k ≡ x) ⊎ In k ks → (In k ks → ((lo ≤ k) × (k ≤ hi)) ⊎ In k (dropMany lo hi ks)) → ((lo ≤ k) × (k ≤ hi)) ⊎ In k (cond (within lo hi x) (dropMany lo hi ks) (x ∷ ks))
-    go (was t) (inl e) rec = inl (rw e (in-range lo hi x t))
+    go : Tested (within lo hi x) → (k ≡ x) ⊎ In k ks → (In k ks → ((lo ≤ k) × (k ≤ hi)) ⊎ In k (drop_many lo hi ks)) → ((lo ≤ k) × (k ≤ hi)) ⊎ In k (cond (within lo hi x) (drop_many lo hi ks) (x ∷ ks))
+    go (was t) (inl e) rec = inl (rw e (in_range lo hi x t))
     go (was t) (inr z) rec = rw t (rec z)
     go (wasnt t) z rec = inr (rw t z)
 
@@ -51,53 +51,53 @@ either_way (inr b) h = inr (h b)
 pub among : (is : List Item) (ks : List ℕ) → matches is ks ≡ true → (k : ℕ) → In k ks → Among is k
 unfolding matches is_empty
 among [] (x ∷ ks) e k m = let z : ◌≡◌ {A = ℕ} 0 1 = cc in omega arith
-among (one lo hi ∷ is) ks e k m = either_way (dropped-one lo hi k ks m) (λ z. among is (dropOne lo hi ks) (both_true (headIn lo hi ks) _ e).1 k z)
-among (opt lo hi ∷ is) ks e k m = either_way (dropped-one lo hi k ks m) (λ z. among is (dropOne lo hi ks) e k z)
-among (many lo hi ∷ is) ks e k m = either_way (dropped-many lo hi k ks m) (λ z. among is (dropMany lo hi ks) e k z)
+among (one lo hi ∷ is) ks e k m = either_way (dropped_one lo hi k ks m) (λ z. among is (drop_one lo hi ks) (both_true (head_in lo hi ks) _ e).1 k z)
+among (opt lo hi ∷ is) ks e k m = either_way (dropped_one lo hi k ks m) (λ z. among is (drop_one lo hi ks) e k z)
+among (many lo hi ∷ is) ks e k m = either_way (dropped_many lo hi k ks m) (λ z. among is (drop_many lo hi ks) e k z)
 
 -- what stands behind a Param's Name gives no targets
-shut-behind : (k : ℕ) → Among (opt 18 18 ∷ opt 11 14 ∷ []) k → pick k ≡ shut
-shut-behind k (inl h) = let e : k ≡ 18 = omega arith in rw e (unfold pick in refl)
-shut-behind k (inr (inl h)) = expr-shut k h.0 h.1
+shut_behind : (k : ℕ) → Among (opt 18 18 ∷ opt 11 14 ∷ []) k → pick k ≡ shut
+shut_behind k (inl h) = let e : k ≡ 18 = omega arith in rw e (unfold pick in refl)
+shut_behind k (inr (inl h)) = expr_shut k h.0 h.1
 
-all-shut : (f : Forest) → ((k : ℕ) → In k (kinds f) → pick k ≡ shut) → Exprs f
+all_shut : (f : Forest) → ((k : ℕ) → In k (kinds f) → pick k ≡ shut) → Exprs f
 unfolding kinds Exprs
-all-shut nil h = tt
-all-shut (node at k v kids rest) h = (h k (inl refl), all-shut rest (λ j m. h j (inr m)))
+all_shut nil h = tt
+all_shut (node at k v kids rest) h = (h k (inl refl), all_shut rest (λ j m. h j (inr m)))
 
 abbrev called : List Target → List ℕ
 called ts = map (λ (t : Target). t.name) ts
 
-own-target : (N : Names) (m : Marks) (kids : Forest) → allowed 17 (kinds kids) ≡ true → called (collect N m kids) ≡ ownName kids
-unfolding allowed row matches kinds is_empty headIn dropOne ownName
-own-target N m nil e = unfold collect in refl
-own-target N m (node a j n more rest) e = go (both_true (within 8 8 j) _ e)
+own_target : (N : Names) (m : Marks) (kids : Forest) → allowed 17 (kinds kids) ≡ true → called (collect N m kids) ≡ own_name kids
+unfolding allowed row matches kinds is_empty head_in drop_one own_name
+own_target N m nil e = unfold collect in refl
+own_target N m (node a j n more rest) e = go (both_true (within 8 8 j) _ e)
   where
     go : (within 8 8 j ≡ true) × (matches (opt 18 18 ∷ opt 11 14 ∷ []) (cond (within 8 8 j) (kinds rest) (j ∷ kinds rest)) ≡ true) → called (collect N m (node a j n more rest)) ≡ n ∷ []
-    go (t, z) = let r = in-range 8 8 j t in let q : j ≡ 8 = omega arith in
+    go (t, z) = let r = in_range 8 8 j t in let q : j ≡ 8 = omega arith in
         let y : matches (opt 18 18 ∷ opt 11 14 ∷ []) (kinds rest) ≡ true = rw t at z in
-        rw q (ap called (collect-name N m a n more rest ∙ ap (λ l. target N m a n ∷ l) (exprs-none N m rest (all-shut rest (λ k i. shut-behind k (among (opt 18 18 ∷ opt 11 14 ∷ []) (kinds rest) y k i))))) ∙ (unfold target in refl))
+        rw q (ap called (collect_name N m a n more rest ∙ ap (λ l. target N m a n ∷ l) (exprs_none N m rest (all_shut rest (λ k i. shut_behind k (among (opt 18 18 ∷ opt 11 14 ∷ []) (kinds rest) y k i))))) ∙ (unfold target in refl))
 
-own-count : (kids : Forest) → length (ownName kids) ≡ cond (not (empty kids)) 1 0
-unfolding ownName empty
-own-count nil = refl
-own-count (node a j n more rest) = refl
+own_count : (kids : Forest) → length (own_name kids) ≡ cond (not (empty kids)) 1 0
+unfolding own_name empty
+own_count nil = refl
+own_count (node a j n more rest) = refl
 
-no-params : (f : Forest) → (In 17 (kinds f) → ⊥) → (paramNames f ≡ []) × (params f ≡ 0)
-unfolding kinds paramNames params
-no-params nil n = (refl, refl)
-no-params (node at k v kids rest) n = let r = no-params rest (λ m. n (inr m)) in rw (eqb-not k 17 (λ e. n (inl (sym e)))) (r.0, omega (arith, r.1))
+no_params_lem : (f : Forest) → (In 17 (kinds f) → ⊥) → (param_names f ≡ []) × (params f ≡ 0)
+unfolding kinds param_names params
+no_params_lem nil n = (refl, refl)
+no_params_lem (node at k v kids rest) n = let r = no_params_lem rest (λ m. n (inr m)) in rw (eqb-not k 17 (λ e. n (inl (sym e)))) (r.0, omega (arith, r.1))
 
 -- a function's targets begin with its Params'
 pub record Params (ts : List Target) (f : Forest) : Type 0 where
   pub own : List Target
   pub others : List Target
   pub together : ts ≡ own ++ others
-  pub theirs : called own ≡ paramNames f
-  pub count : length (paramNames f) ≡ params f
+  pub theirs : called own ≡ param_names f
+  pub count : length (param_names f) ≡ params f
 
 params_of : (N : Names) (is : List Item) (f : Forest) → (Among is 17 → ⊥) → matches (many 17 17 ∷ is) (kinds f) ≡ true → Tabled f → Params (collect N unmarked f) f
-unfolding kinds paramNames params
+unfolding kinds param_names params
 params_of N is nil n e h = record { own = []; others = []; together = unfold collect in refl; theirs = refl; count = refl }
 params_of N is (node at k v kids rest) n e h = go (tested (eqb k 17)) (λ z. params_of N is rest n z (unfold Tabled in h.3))
   where
@@ -106,29 +106,29 @@ params_of N is (node at k v kids rest) n e h = go (tested (eqb k 17)) (λ z. par
 
     param : k ≡ 17 → Params (collect N unmarked rest) rest → Params (collect N unmarked (node at k v kids rest)) (node at k v kids rest)
     param q r = rw q (record {
-      own = collect N (asParam unmarked) kids ++ r.own;
+      own = collect N (as_param unmarked) kids ++ r.own;
       others = r.others;
-      together = collect-param N unmarked at v kids rest ∙ ap (λ l. collect N (asParam unmarked) kids ++ l) r.together ∙ sym (append_assoc (collect N (asParam unmarked) kids) r.own r.others);
-      theirs = map-append (λ (t : Target). t.name) (collect N (asParam unmarked) kids) r.own ∙ ap₂ ◌++◌ (own-target N (asParam unmarked) kids (rw q at shaped)) r.theirs;
-      count = omega (arith, length-append (ownName kids) (paramNames rest), own-count kids, r.count);
+      together = collect_param N unmarked at v kids rest ∙ ap (λ l. collect N (as_param unmarked) kids ++ l) r.together ∙ sym (append_assoc (collect N (as_param unmarked) kids) r.own r.others);
+      theirs = map-append (λ (t : Target). t.name) (collect N (as_param unmarked) kids) r.own ∙ ap₂ ◌++◌ (own_target N (as_param unmarked) kids (rw q at shaped)) r.theirs;
+      count = omega (arith, length-append (own_name kids) (param_names rest), own_count kids, r.count);
     })
 
-    skip : k ≡ 17 → matches is (dropMany 17 17 (kinds rest)) ≡ true
-    skip q = unfold matches dropMany within in (rw q at e)
+    skip : k ≡ 17 → matches is (drop_many 17 17 (kinds rest)) ≡ true
+    skip q = unfold matches drop_many within in (rw q at e)
 
     none : (k ≡ 17 → ⊥) → In 17 (k ∷ kinds rest) → ⊥
-    none z m = n (among is (k ∷ kinds rest) (unfold matches dropMany in (rw (out z) at e)) 17 m)
+    none z m = n (among is (k ∷ kinds rest) (unfold matches drop_many in (rw (out z) at e)) 17 m)
       where
         out : (k ≡ 17 → ⊥) → within 17 17 k ≡ false
         out z = side (tested (within 17 17 k))
           where
             side : Tested (within 17 17 k) → within 17 17 k ≡ false
-            side (was t) = absurd (z (let r = in-range 17 17 k t in omega arith))
+            side (was t) = absurd (z (let r = in_range 17 17 k t in omega arith))
             side (wasnt t) = t
 
     go : Tested (eqb k 17) → (matches (many 17 17 ∷ is) (kinds rest) ≡ true → Params (collect N unmarked rest) rest) → Params (collect N unmarked (node at k v kids rest)) (node at k v kids rest)
     go (was t) rec = param (eqb-true k 17 t) (rec (unfold matches in skip (eqb-true k 17 t)))
-    go (wasnt t) rec = let r = no-params (node at k v kids rest) (unfold kinds in none (eqb-false k 17 t)) in record { own = []; others = collect N unmarked (node at k v kids rest); together = refl; theirs = sym r.0; count = ap length r.0 ∙ sym r.1 }
+    go (wasnt t) rec = let r = no_params_lem (node at k v kids rest) (unfold kinds in none (eqb-false k 17 t)) in record { own = []; others = collect N unmarked (node at k v kids rest); together = refl; theirs = sym r.0; count = ap length r.0 ∙ sym r.1 }
 
 -- variables of different names stand as their targets do, and keep their places when others are noted
 merge-apart : (vs : List Var) (ts : List Target) → Distinct (titles vs ++ called ts) → titles (merge vs ts) ≡ titles vs ++ called ts
@@ -137,7 +137,7 @@ merge-apart vs [] d = sym (append-nil (titles vs))
 merge-apart vs (t ∷ ts) d = merge-apart (note t vs) ts (rw (one_more, append_assoc (titles vs) (t.name ∷ []) (called ts)) d) ∙ ap (λ l. l ++ called ts) one_more ∙ append_assoc (titles vs) (t.name ∷ []) (called ts)
   where
     one_more : titles (note t vs) ≡ titles vs ++ (t.name ∷ [])
-    one_more = ap titles (note-new t vs (λ m. disjoint t.name (titles vs) (called (t ∷ ts)) d m (inl refl))) ∙ map-append (λ (v : Var). v.name) vs (newVar t ∷ []) ∙ (unfold newVar in refl)
+    one_more = ap titles (note-new t vs (λ m. disjoint t.name (titles vs) (called (t ∷ ts)) d m (inl refl))) ∙ map-append (λ (v : Var). v.name) vs (new_var t ∷ []) ∙ (unfold new_var in refl)
 
 merge_keeps : (vs : List Var) (ts : List Target) → (more : List ℕ) × (titles (merge vs ts) ≡ titles vs ++ more)
 unfolding merge
@@ -148,21 +148,21 @@ merge_keeps vs (t ∷ ts) = let r = merge_keeps (note t vs) ts in go (noted t vs
     go (inl e) (more, q) = (more, q ∙ ap (λ l. l ++ more) e)
     go (inr e) (more, q) = (t.name ∷ more, q ∙ ap (λ l. l ++ more) e.1 ∙ append_assoc (titles vs) (t.name ∷ []) more)
 
-params-first : (ts : List Target) (f : Forest) → Params ts f → Distinct (paramNames f) → (more : List ℕ) × (titles (merge [] ts) ≡ paramNames f ++ more) × (length (paramNames f) ≡ params f)
+params-first : (ts : List Target) (f : Forest) → Params ts f → Distinct (param_names f) → (more : List ℕ) × (titles (merge [] ts) ≡ param_names f ++ more) × (length (param_names f) ≡ params f)
 params-first ts f p d = let r = merge_keeps (merge [] p.own) p.others in
-    (r.0, ap (λ l. titles (merge [] l)) p.together ∙ ap titles (merge-append [] p.own p.others) ∙ r.1 ∙ ap (λ l. l ++ r.0) (merge-apart [] p.own (rw p.theirs d) ∙ p.theirs), p.count)
+    (r.0, ap (λ l. titles (merge [] l)) p.together ∙ ap titles (merge_append [] p.own p.others) ∙ r.1 ∙ ap (λ l. l ++ r.0) (merge-apart [] p.own (rw p.theirs d) ∙ p.theirs), p.count)
 
-pub lambda-params : (N : Names) (kids : Forest) → allowed 12 (kinds kids) ≡ true → Tabled kids → Distinct (paramNames kids) → ParamsFirst N 12 kids
+pub lambda_params : (N : Names) (kids : Forest) → allowed 12 (kinds kids) ≡ true → Tabled kids → Distinct (param_names kids) → ParamsFirst N 12 kids
 unfolding targets
-lambda-params N kids e h d = let y = params-first (collect N unmarked kids) kids (params_of N (one 11 14 ∷ []) kids no17 (unfold allowed row in e) h) d in record { others = y.0; in-front = y.1; as_many = y.2 }
+lambda_params N kids e h d = let y = params-first (collect N unmarked kids) kids (params_of N (one 11 14 ∷ []) kids no17 (unfold allowed row in e) h) d in record { others = y.0; in_front = y.1; as_many = y.2 }
   where
     no17 : Among (one 11 14 ∷ []) 17 → ⊥
     no17 (inl r) = omega arith
 
-pub def-params : (N : Names) (kids : Forest) → allowed 6 (kinds kids) ≡ true → Tabled kids → Distinct (paramNames kids) → ParamsFirst N 6 kids
-unfolding allowed row matches kinds headIn dropOne Tabled targets after paramNames params
-def-params N nil e h d = absurd (let z : ◌≡◌ {A = ℕ} 0 1 = cc in omega arith)
-def-params N (node a j n more rest) e h d = go (both_true (within 8 8 j) _ e)
+pub def_params : (N : Names) (kids : Forest) → allowed 6 (kinds kids) ≡ true → Tabled kids → Distinct (param_names kids) → ParamsFirst N 6 kids
+unfolding allowed row matches kinds head_in drop_one Tabled targets after param_names params
+def_params N nil e h d = absurd (let z : ◌≡◌ {A = ℕ} 0 1 = cc in omega arith)
+def_params N (node a j n more rest) e h d = go (both_true (within 8 8 j) _ e)
   where
     no17 : Among (opt 18 18 ∷ one 0 7 ∷ []) 17 → ⊥
     no17 (inl r) = omega arith
@@ -170,6 +170,6 @@ def-params N (node a j n more rest) e h d = go (both_true (within 8 8 j) _ e)
 
     go : (within 8 8 j ≡ true) × (matches (many 17 17 ∷ opt 18 18 ∷ one 0 7 ∷ []) (cond (within 8 8 j) (kinds rest) (j ∷ kinds rest)) ≡ true)
         → ParamsFirst N 6 (node a j n more rest)
-    go (t, z) = let r = in-range 8 8 j t in let q : j ≡ 8 = omega arith in
+    go (t, z) = let r = in_range 8 8 j t in let q : j ≡ 8 = omega arith in
         let y = params-first (collect N unmarked rest) rest (params_of N (opt 18 18 ∷ one 0 7 ∷ []) rest no17 (rw t at z) h.3) (rw q at d) in
-        rw q (record { others = y.0; in-front = y.1; as_many = omega (arith, y.2) })
+        rw q (record { others = y.0; in_front = y.1; as_many = omega (arith, y.2) })

@@ -9,18 +9,18 @@ without : ℕ → List ℕ → List ℕ
 without x [] = []
 without x (y ∷ ys) = cond (eqb x y) ys (y ∷ without x ys)
 
-without-length : (x : ℕ) (ys : List ℕ) → In x ys → suc (length (without x ys)) ≡ length ys
+without_length : (x : ℕ) (ys : List ℕ) → In x ys → suc (length (without x ys)) ≡ length ys
 unfolding without
-without-length x (y ∷ ys) m = go (tested (eqb x y)) m (λ z. without-length x ys z)
+without_length x (y ∷ ys) m = go (tested (eqb x y)) m (λ z. without_length x ys z)
   where
     go : Tested (eqb x y) → (x ≡ y) ⊎ In x ys → (In x ys → suc (length (without x ys)) ≡ length ys) → suc (length (cond (eqb x y) ys (y ∷ without x ys))) ≡ suc (length ys)
     go (was e) m rec = rw e refl
     go (wasnt e) (inl q) rec = absurd (eqb-false x y e q)
     go (wasnt e) (inr m) rec = rw e (ap suc (rec m))
 
-without-keeps : (x t : ℕ) (ys : List ℕ) → In t ys → (t ≡ x → ⊥) → In t (without x ys)
+without_keeps : (x t : ℕ) (ys : List ℕ) → In t ys → (t ≡ x → ⊥) → In t (without x ys)
 unfolding without
-without-keeps x t (y ∷ ys) m n = go (tested (eqb x y)) m (λ z. without-keeps x t ys z n)
+without_keeps x t (y ∷ ys) m n = go (tested (eqb x y)) m (λ z. without_keeps x t ys z n)
   where
     go : Tested (eqb x y) → (t ≡ y) ⊎ In t ys → (In t ys → In t (without x ys)) → In t (cond (eqb x y) ys (y ∷ without x ys))
     go (was e) (inl q) rec = absurd (n (q ∙ sym (eqb-true x y e)))
@@ -32,8 +32,8 @@ pub at_most : (xs ys : List ℕ) → Distinct xs → ((t : ℕ) → In t xs → 
 at_most [] ys d h = omega arith
 at_most (x ∷ xs) ys d h = omega (
   arith,
-  without-length x ys (h x (inl refl)),
-  at_most xs (without x ys) d.1 (λ t m. without-keeps x t ys (h t (inr m)) (λ e. d.0 (subst (λ y. In y xs) e m))),
+  without_length x ys (h x (inl refl)),
+  at_most xs (without x ys) d.1 (λ t m. without_keeps x t ys (h t (inr m)) (λ e. d.0 (subst (λ y. In y xs) e m))),
 )
 
 -- is a number there
@@ -62,10 +62,10 @@ without_in x t (y ∷ ys) m = go (tested (eqb x y)) m (λ z. without_in x t ys z
         later (inl q) = inl q
         later (inr m) = inr (rec m)
 
-without-distinct : (x : ℕ) (ys : List ℕ) → Distinct ys → Distinct (without x ys) × (In x (without x ys) → ⊥)
+without_distinct : (x : ℕ) (ys : List ℕ) → Distinct ys → Distinct (without x ys) × (In x (without x ys) → ⊥)
 unfolding without
-without-distinct x [] d = (tt, λ m. m)
-without-distinct x (y ∷ ys) d = go (tested (eqb x y)) (without-distinct x ys d.1)
+without_distinct x [] d = (tt, λ m. m)
+without_distinct x (y ∷ ys) d = go (tested (eqb x y)) (without_distinct x ys d.1)
   where
     go : Tested (eqb x y) → Distinct (without x ys) × (In x (without x ys) → ⊥) → Distinct (cond (eqb x y) ys (y ∷ without x ys)) × (In x (cond (eqb x y) ys (y ∷ without x ys)) → ⊥)
     go (was e) h = rw e (d.1, λ m. d.0 (subst (λ t. In t ys) (eqb-true x y e) m))
@@ -102,14 +102,14 @@ pigeonhole (x ∷ xs) ys d h le = go (has x xs) (has x ys) (λ z e l. pigeonhole
     rest t m = pick (h t (without_in x t ys m))
       where
         pick : (t ≡ x) ⊎ In t xs → In t xs
-        pick (inl q) = absurd ((without-distinct x ys d).1 (subst (λ y. In y (without x ys)) q m))
+        pick (inl q) = absurd ((without_distinct x ys d).1 (subst (λ y. In y (without x ys)) q m))
         pick (inr z) = z
 
     go : Dec (In x xs) → Dec (In x ys) → (Distinct (without x ys) → ((t : ℕ) → In t (without x ys) → In t xs) → length xs ≤ length (without x ys) → Distinct xs × ((t : ℕ) → In t xs → In t (without x ys)))
         → Distinct (x ∷ xs) × ((t : ℕ) → In t (x ∷ xs) → In t ys)
     go (yes m) b rec = absurd (crowded (past m))
     go (no n) (no k) rec = absurd (crowded (beside k))
-    go (no n) (yes m) rec = let r = rec (without-distinct x ys d).0 rest (omega (arith, without-length x ys m)) in ((n, r.0), within r.1)
+    go (no n) (yes m) rec = let r = rec (without_distinct x ys d).0 rest (omega (arith, without_length x ys m)) in ((n, r.0), within r.1)
       where
         within : ((t : ℕ) → In t xs → In t (without x ys)) → (t : ℕ) → (t ≡ x) ⊎ In t xs → In t ys
         within k t (inl q) = subst (λ y. In y ys) (sym q) m

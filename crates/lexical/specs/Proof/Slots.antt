@@ -4,33 +4,33 @@ use Rattle.std.proofs.Math.Path.{sym, ap₂}
 use Rattle.std.proofs.Common.{◌∙◌, ap, inl, arith}
 use Rattle.std.proofs.Math.Logic.{inr}
 use Rattle.std.proofs.Math.Option.{none, some}
-use Rattle.lexical.specs.Lists.{picked, picked-snoc, first, map_o, or_else, eqb-true, eqb-self, none-some, Tested, was, wasnt, tested, Opened, absent, present, opened, orElse-none, mapO-orElse, mapO-cond, first-append, count-snoc}
+use Rattle.lexical.specs.Lists.{picked, picked_snoc, first, map_o, or_else, eqb-true, eqb_self, none-some, Tested, was, wasnt, tested, Opened, absent, present, opened, or_else_none, map_o_or_else, map_o_cond, first_append, count_snoc}
 use Rattle.lexical.specs.Places.{In}
 use Rattle.lexical.specs.State.{Slot, Copy}
-use Rattle.lexical.specs.Block.{inScope, freshIn}
-use Rattle.lexical.specs.Third.{holds, handIn}
-use Rattle.lexical.specs.Follow.{copy_of, copyHand, copyTo, fromIn, slot_at, valueIn, copied}
+use Rattle.lexical.specs.Block.{in_scope, fresh_in}
+use Rattle.lexical.specs.Third.{holds, hand_in}
+use Rattle.lexical.specs.Follow.{copy_of, copy_hand, copy_to, from_in, slot_at, value_in, copied}
 
 -- one more at the end
-pub hand-snoc : (s i : ℕ) (rs : List Slot) (r : Slot) → handIn s i (rs ++ (r ∷ [])) ≡ or_else (handIn s i rs) (cond (holds s i r) (some r.num) none)
-unfolding handIn first
-hand-snoc s i rs r = ap (map_o _) (first-append (holds s i) rs (r ∷ [])) ∙ mapO-orElse _ _ _ ∙ ap (or_else (handIn s i rs)) (unfold map_o in mapO-cond _ (holds s i r) r none)
+pub hand_snoc : (s i : ℕ) (rs : List Slot) (r : Slot) → hand_in s i (rs ++ (r ∷ [])) ≡ or_else (hand_in s i rs) (cond (holds s i r) (some r.num) none)
+unfolding hand_in first
+hand_snoc s i rs r = ap (map_o _) (first_append (holds s i) rs (r ∷ [])) ∙ map_o_or_else _ _ _ ∙ ap (or_else (hand_in s i rs)) (unfold map_o in map_o_cond _ (holds s i r) r none)
 
-pub from-snoc : (s k : ℕ) (cs : List Copy) (c : Copy) → fromIn s k (cs ++ (c ∷ [])) ≡ or_else (fromIn s k cs) (cond (copyTo s k c) (some c.parent) none)
-unfolding fromIn first
-from-snoc s k cs c = ap (map_o _) (first-append (copyTo s k) cs (c ∷ [])) ∙ mapO-orElse _ _ _ ∙ ap (or_else (fromIn s k cs)) (unfold map_o in mapO-cond _ (copyTo s k c) c none)
+pub from_snoc : (s k : ℕ) (cs : List Copy) (c : Copy) → from_in s k (cs ++ (c ∷ [])) ≡ or_else (from_in s k cs) (cond (copy_to s k c) (some c.parent) none)
+unfolding from_in first
+from_snoc s k cs c = ap (map_o _) (first_append (copy_to s k) cs (c ∷ [])) ∙ map_o_or_else _ _ _ ∙ ap (or_else (from_in s k cs)) (unfold map_o in map_o_cond _ (copy_to s k c) c none)
 
-pub value-snoc : (s k : ℕ) (rs : List Slot) (r : Slot) → valueIn s k (rs ++ (r ∷ [])) ≡ or_else (valueIn s k rs) (cond (slot_at s k r) (some r.id) none)
-unfolding valueIn first
-value-snoc s k rs r = ap (map_o _) (first-append (slot_at s k) rs (r ∷ [])) ∙ mapO-orElse _ _ _ ∙ ap (or_else (valueIn s k rs)) (unfold map_o in mapO-cond _ (slot_at s k r) r none)
+pub value_snoc : (s k : ℕ) (rs : List Slot) (r : Slot) → value_in s k (rs ++ (r ∷ [])) ≡ or_else (value_in s k rs) (cond (slot_at s k r) (some r.id) none)
+unfolding value_in first
+value_snoc s k rs r = ap (map_o _) (first_append (slot_at s k) rs (r ∷ [])) ∙ map_o_or_else _ _ _ ∙ ap (or_else (value_in s k rs)) (unfold map_o in map_o_cond _ (slot_at s k r) r none)
 
-pub fresh-snoc : (s : ℕ) (rs : List Slot) (r : Slot) → freshIn s (rs ++ (r ∷ [])) ≡ cond (eqb r.scope s) (suc (freshIn s rs)) (freshIn s rs)
-unfolding freshIn inScope
-fresh-snoc s rs r = count-snoc (inScope s) rs r
+pub fresh_snoc : (s : ℕ) (rs : List Slot) (r : Slot) → fresh_in s (rs ++ (r ∷ [])) ≡ cond (eqb r.scope s) (suc (fresh_in s rs)) (fresh_in s rs)
+unfolding fresh_in in_scope
+fresh_snoc s rs r = count_snoc (in_scope s) rs r
 
-pub copied-snoc : (s : ℕ) (cs : List Copy) (c : Copy) → copied s (cs ++ (c ∷ [])) ≡ copied s cs ++ cond (eqb c.scope s) (c.id ∷ []) []
+pub copied_snoc : (s : ℕ) (cs : List Copy) (c : Copy) → copied s (cs ++ (c ∷ [])) ≡ copied s cs ++ cond (eqb c.scope s) (c.id ∷ []) []
 unfolding copied
-copied-snoc s cs c = picked-snoc (λ (c : Copy). eqb c.scope s) (λ c. c.id) cs c
+copied_snoc s cs c = picked_snoc (λ (c : Copy). eqb c.scope s) (λ c. c.id) cs c
 
 pub both_true : (a b : Bool) → (a && b) ≡ true → (a ≡ true) × (b ≡ true)
 both_true true b e = (refl, e)
@@ -45,81 +45,81 @@ holds_not : (s i : ℕ) (r : Slot) → (r.scope ≡ s → r.id ≡ i → ⊥) �
 unfolding holds
 holds_not s i r h = not-both _ _ (λ p q. h (eqb-true _ _ p) (eqb-true _ _ q))
 
-copyTo-not : (s k : ℕ) (c : Copy) → (c.scope ≡ s → c.child ≡ k → ⊥) → copyTo s k c ≡ false
-unfolding copyTo
-copyTo-not s k c h = not-both _ _ (λ p q. h (eqb-true _ _ p) (eqb-true _ _ q))
+copy_to-not : (s k : ℕ) (c : Copy) → (c.scope ≡ s → c.child ≡ k → ⊥) → copy_to s k c ≡ false
+unfolding copy_to
+copy_to-not s k c h = not-both _ _ (λ p q. h (eqb-true _ _ p) (eqb-true _ _ q))
 
-slotAt-not : (s k : ℕ) (r : Slot) → (r.scope ≡ s → r.num ≡ k → ⊥) → slot_at s k r ≡ false
+slot_at_not : (s k : ℕ) (r : Slot) → (r.scope ≡ s → r.num ≡ k → ⊥) → slot_at s k r ≡ false
 unfolding slot_at
-slotAt-not s k r h = not-both _ _ (λ p q. h (eqb-true _ _ p) (eqb-true _ _ q))
+slot_at_not s k r h = not-both _ _ (λ p q. h (eqb-true _ _ p) (eqb-true _ _ q))
 
-pub value-other : (s k : ℕ) (rs : List Slot) (r : Slot) → (r.scope ≡ s → r.num ≡ k → ⊥) → valueIn s k (rs ++ (r ∷ [])) ≡ valueIn s k rs
-value-other s k rs r h = value-snoc s k rs r ∙ (rw (slotAt-not s k r h) (orElse-none _))
+pub value_other : (s k : ℕ) (rs : List Slot) (r : Slot) → (r.scope ≡ s → r.num ≡ k → ⊥) → value_in s k (rs ++ (r ∷ [])) ≡ value_in s k rs
+value_other s k rs r h = value_snoc s k rs r ∙ (rw (slot_at_not s k r h) (or_else_none _))
 
-pub value-here : (rs : List Slot) (r : Slot) → valueIn r.scope r.num rs ≡ none → valueIn r.scope r.num (rs ++ (r ∷ [])) ≡ some r.id
+pub value_here : (rs : List Slot) (r : Slot) → value_in r.scope r.num rs ≡ none → value_in r.scope r.num (rs ++ (r ∷ [])) ≡ some r.id
 unfolding slot_at or_else
-value-here rs r e = value-snoc r.scope r.num rs r ∙ (rw (e, eqb-self r.scope, eqb-self r.num) refl)
+value_here rs r e = value_snoc r.scope r.num rs r ∙ (rw (e, eqb_self r.scope, eqb_self r.num) refl)
 
-pub value-old : (s k i : ℕ) (rs : List Slot) (r : Slot) → valueIn s k rs ≡ some i → valueIn s k (rs ++ (r ∷ [])) ≡ some i
+pub value_old : (s k i : ℕ) (rs : List Slot) (r : Slot) → value_in s k rs ≡ some i → value_in s k (rs ++ (r ∷ [])) ≡ some i
 unfolding or_else
-value-old s k i rs r e = value-snoc s k rs r ∙ (rw e refl)
+value_old s k i rs r e = value_snoc s k rs r ∙ (rw e refl)
 
-pub hand-other : (s i : ℕ) (rs : List Slot) (r : Slot) → (r.scope ≡ s → r.id ≡ i → ⊥) → handIn s i (rs ++ (r ∷ [])) ≡ handIn s i rs
-hand-other s i rs r h = hand-snoc s i rs r ∙ (rw (holds_not s i r h) (orElse-none _))
+pub hand_other : (s i : ℕ) (rs : List Slot) (r : Slot) → (r.scope ≡ s → r.id ≡ i → ⊥) → hand_in s i (rs ++ (r ∷ [])) ≡ hand_in s i rs
+hand_other s i rs r h = hand_snoc s i rs r ∙ (rw (holds_not s i r h) (or_else_none _))
 
-pub hand-here : (rs : List Slot) (r : Slot) → handIn r.scope r.id rs ≡ none → handIn r.scope r.id (rs ++ (r ∷ [])) ≡ some r.num
+pub hand_here : (rs : List Slot) (r : Slot) → hand_in r.scope r.id rs ≡ none → hand_in r.scope r.id (rs ++ (r ∷ [])) ≡ some r.num
 unfolding holds or_else
-hand-here rs r e = hand-snoc r.scope r.id rs r ∙ (rw (e, eqb-self r.scope, eqb-self r.id) refl)
+hand_here rs r e = hand_snoc r.scope r.id rs r ∙ (rw (e, eqb_self r.scope, eqb_self r.id) refl)
 
-pub hand-old : (s i k : ℕ) (rs : List Slot) (r : Slot) → handIn s i rs ≡ some k → handIn s i (rs ++ (r ∷ [])) ≡ some k
+pub hand_old : (s i k : ℕ) (rs : List Slot) (r : Slot) → hand_in s i rs ≡ some k → hand_in s i (rs ++ (r ∷ [])) ≡ some k
 unfolding or_else
-hand-old s i k rs r e = hand-snoc s i rs r ∙ (rw e refl)
+hand_old s i k rs r e = hand_snoc s i rs r ∙ (rw e refl)
 
 pub record Handed (s i k : ℕ) (rs : List Slot) (r : Slot) : Type 0 where
-  pub was-none : handIn s i rs ≡ none
-  pub at-scope : r.scope ≡ s
-  pub of-id : r.id ≡ i
-  pub at-num : r.num ≡ k
+  pub was_none : hand_in s i rs ≡ none
+  pub at_scope : r.scope ≡ s
+  pub of_id : r.id ≡ i
+  pub at_num : r.num ≡ k
 
-pub handed : (s i k : ℕ) (rs : List Slot) (r : Slot) → handIn s i (rs ++ (r ∷ [])) ≡ some k → (handIn s i rs ≡ some k) ⊎ Handed s i k rs r
-handed s i k rs r e = go (opened (handIn s i rs)) (tested (holds s i r))
+pub handed : (s i k : ℕ) (rs : List Slot) (r : Slot) → hand_in s i (rs ++ (r ∷ [])) ≡ some k → (hand_in s i rs ≡ some k) ⊎ Handed s i k rs r
+handed s i k rs r e = go (opened (hand_in s i rs)) (tested (holds s i r))
   where
-    here : (eqb r.scope s ≡ true) × (eqb r.id i ≡ true) → handIn s i rs ≡ none → r.num ≡ k → Handed s i k rs r
-    here p z n = record { was-none = z; at-scope = eqb-true _ _ p.0; of-id = eqb-true _ _ p.1; at-num = n }
+    here : (eqb r.scope s ≡ true) × (eqb r.id i ≡ true) → hand_in s i rs ≡ none → r.num ≡ k → Handed s i k rs r
+    here p z n = record { was_none = z; at_scope = eqb-true _ _ p.0; of_id = eqb-true _ _ p.1; at_num = n }
 
-    go : Opened (handIn s i rs) → Tested (holds s i r) → (handIn s i rs ≡ some k) ⊎ Handed s i k rs r
-    go (present a q) t = inl (q ∙ (unfold or_else in (ap (λ o. or_else o (cond (holds s i r) (some r.num) none)) (sym q)) ∙ sym (hand-snoc s i rs r) ∙ e))
+    go : Opened (hand_in s i rs) → Tested (holds s i r) → (hand_in s i rs ≡ some k) ⊎ Handed s i k rs r
+    go (present a q) t = inl (q ∙ (unfold or_else in (ap (λ o. or_else o (cond (holds s i r) (some r.num) none)) (sym q)) ∙ sym (hand_snoc s i rs r) ∙ e))
     go (absent q) (was t) = inr (here (both_true _ _ (unfold holds in t)) q (num (unfold or_else in ap₂ (λ o (b : Bool). or_else o (cond b (some r.num) none)) (sym q) (sym t))))
       where
-        num : some r.num ≡ or_else (handIn s i rs) (cond (holds s i r) (some r.num) none) → r.num ≡ k
-        num z = let y : some r.num ≡ some k = z ∙ sym (hand-snoc s i rs r) ∙ e in cc
-    go (absent q) (wasnt t) = absurd (none-some {o = handIn s i (rs ++ (r ∷ []))} (hand-snoc s i rs r ∙ (rw (q, t) (unfold or_else in refl))) e)
+        num : some r.num ≡ or_else (hand_in s i rs) (cond (holds s i r) (some r.num) none) → r.num ≡ k
+        num z = let y : some r.num ≡ some k = z ∙ sym (hand_snoc s i rs r) ∙ e in cc
+    go (absent q) (wasnt t) = absurd (none-some {o = hand_in s i (rs ++ (r ∷ []))} (hand_snoc s i rs r ∙ (rw (q, t) (unfold or_else in refl))) e)
 
-pub from-other : (s k : ℕ) (cs : List Copy) (c : Copy) → (c.scope ≡ s → c.child ≡ k → ⊥) → fromIn s k (cs ++ (c ∷ [])) ≡ fromIn s k cs
-from-other s k cs c h = from-snoc s k cs c ∙ (rw (copyTo-not s k c h) (orElse-none _))
+pub from_other : (s k : ℕ) (cs : List Copy) (c : Copy) → (c.scope ≡ s → c.child ≡ k → ⊥) → from_in s k (cs ++ (c ∷ [])) ≡ from_in s k cs
+from_other s k cs c h = from_snoc s k cs c ∙ (rw (copy_to-not s k c h) (or_else_none _))
 
-pub from-here : (cs : List Copy) (c : Copy) → fromIn c.scope c.child cs ≡ none → fromIn c.scope c.child (cs ++ (c ∷ [])) ≡ some c.parent
-unfolding copyTo or_else
-from-here cs c e = from-snoc c.scope c.child cs c ∙ (rw (e, eqb-self c.scope, eqb-self c.child) refl)
+pub from_here : (cs : List Copy) (c : Copy) → from_in c.scope c.child cs ≡ none → from_in c.scope c.child (cs ++ (c ∷ [])) ≡ some c.parent
+unfolding copy_to or_else
+from_here cs c e = from_snoc c.scope c.child cs c ∙ (rw (e, eqb_self c.scope, eqb_self c.child) refl)
 
-pub fresh_up : (s : ℕ) (rs : List Slot) (r : Slot) → freshIn s rs ≤ freshIn s (rs ++ (r ∷ []))
-fresh_up s rs r = rw (fresh-snoc s rs r) (go (eqb r.scope s) _)
+pub fresh_up : (s : ℕ) (rs : List Slot) (r : Slot) → fresh_in s rs ≤ fresh_in s (rs ++ (r ∷ []))
+fresh_up s rs r = rw (fresh_snoc s rs r) (go (eqb r.scope s) _)
   where
     go : (b : Bool) (n : ℕ) → n ≤ cond b (suc n) n
     go true n = omega arith
     go false n = omega arith
 
-pub fresh_at : (rs : List Slot) (r : Slot) → freshIn r.scope (rs ++ (r ∷ [])) ≡ suc (freshIn r.scope rs)
-fresh_at rs r = fresh-snoc r.scope rs r ∙ (rw (eqb-self r.scope) refl)
+pub fresh_at : (rs : List Slot) (r : Slot) → fresh_in r.scope (rs ++ (r ∷ [])) ≡ suc (fresh_in r.scope rs)
+fresh_at rs r = fresh_snoc r.scope rs r ∙ (rw (eqb_self r.scope) refl)
 
-pub copyHand-snoc : (s i : ℕ) (cs : List Copy) (c : Copy) → copyHand s i (cs ++ (c ∷ [])) ≡ or_else (copyHand s i cs) (cond (eqb c.scope s && eqb c.id i) (some c.child) none)
-unfolding copyHand first
-copyHand-snoc s i cs c = ap (map_o _) (first-append (copy_of s i) cs (c ∷ [])) ∙ mapO-orElse _ _ _ ∙ ap (or_else (copyHand s i cs)) (unfold map_o copy_of in mapO-cond _ (copy_of s i c) c none)
+pub copy_hand_snoc : (s i : ℕ) (cs : List Copy) (c : Copy) → copy_hand s i (cs ++ (c ∷ [])) ≡ or_else (copy_hand s i cs) (cond (eqb c.scope s && eqb c.id i) (some c.child) none)
+unfolding copy_hand first
+copy_hand_snoc s i cs c = ap (map_o _) (first_append (copy_of s i) cs (c ∷ [])) ∙ map_o_or_else _ _ _ ∙ ap (or_else (copy_hand s i cs)) (unfold map_o copy_of in map_o_cond _ (copy_of s i c) c none)
 
-pub copied-of : (s i k : ℕ) (cs : List Copy) → copyHand s i cs ≡ some k → In i (copied s cs)
-unfolding copyHand first map_o copied picked
-copied-of s i k [] e = absurd (none-some refl e)
-copied-of s i k (c ∷ cs) e = go (tested (copy_of s i c)) e (λ z. copied-of s i k cs z)
+pub copied_of : (s i k : ℕ) (cs : List Copy) → copy_hand s i cs ≡ some k → In i (copied s cs)
+unfolding copy_hand first map_o copied picked
+copied_of s i k [] e = absurd (none-some refl e)
+copied_of s i k (c ∷ cs) e = go (tested (copy_of s i c)) e (λ z. copied_of s i k cs z)
   where
     more : (b : Bool) → In i (copied s cs) → In i (cond b (c.id ∷ copied s cs) (copied s cs))
     more true m = inr m
@@ -128,7 +128,7 @@ copied-of s i k (c ∷ cs) e = go (tested (copy_of s i c)) e (λ z. copied-of s 
     here : (eqb c.scope s ≡ true) × (eqb c.id i ≡ true) → In i (cond (eqb c.scope s) (c.id ∷ copied s cs) (copied s cs))
     here p = rw p.0 (inl (sym (eqb-true c.id i p.1)))
 
-    go : Tested (copy_of s i c) → map_o (λ (c : Copy). c.child) (cond (copy_of s i c) (some c) (first (copy_of s i) cs)) ≡ some k → (copyHand s i cs ≡ some k → In i (copied s cs))
+    go : Tested (copy_of s i c) → map_o (λ (c : Copy). c.child) (cond (copy_of s i c) (some c) (first (copy_of s i) cs)) ≡ some k → (copy_hand s i cs ≡ some k → In i (copied s cs))
         → In i (cond (eqb c.scope s) (c.id ∷ copied s cs) (copied s cs))
     go (was t) z rec = here (both_true (eqb c.scope s) (eqb c.id i) (unfold copy_of in t))
     go (wasnt t) z rec = more (eqb c.scope s) (rec (rw t at z))

@@ -2,9 +2,9 @@
 -- Assumes nothing.
 use Prim.Native.Nat.{ℕ}
 use mathlib.Core.Path.{refl, ap, ap₂}
-use Rattle.lines.specs.Lines.{bindingLine, nameText, choice, sourceText}
+use Rattle.lines.specs.Lines.{binding_line, name_text, choice, source_text}
 use Rattle.text.specs.Bytes.{ascii, decimal}
-use Rattle.text.specs.Laws.{puts_then, puts-line, puts-is}
+use Rattle.text.specs.Laws.{puts_then, puts_line, puts_is}
 use Rattle.lines.proofs.put_binding.Statement.{statement}
 use Rattle.lines.proofs.put_binding.Tie as tie
 
@@ -96,7 +96,7 @@ put-bytes-requires-2 : tie.Need-put-bytes-requires-2
 put-bytes-requires-2 c κs = tt
 
 returns : tie.Need-returns
-unfolding bindingLine
+unfolding binding_line
 returns c =
     let p10 = c.before.before in
     let p9 = p10.before.before.before.before.before in
@@ -111,20 +111,20 @@ returns c =
     let file = p1.before.before.before.before.before.args.file.now in
     let q1 = p1.put-number.ensures in
     let q2 = p2.put-bytes.ensures in
-    let q3 = puts-is p3.put-name.ensures (ap (nameText file) p3.before.name.ensures.is) in
-    let q4 = puts-is p4.put-choice.ensures (ap (λ (x : ℕ). choice x (ascii " L ") (ascii " M ")) p4.before.before.before.local.ensures.is) in
-    let q5 = puts-is p5.put-decimal.ensures (ap decimal p5.before.slot.ensures.is) in
-    let q6 = puts-is p6.put-choice2.ensures (ap (λ (x : ℕ). choice x (ascii " public") (ascii " private")) p6.before.before.before.public.ensures.is) in
-    let q7 = puts-is p7.put-choice3.ensures (ap (λ (x : ℕ). choice x (ascii " any") (ascii " once")) p7.before.before.before.any.ensures.is) in
-    let q8 = puts-is p8.put-choice4.ensures (ap (λ (x : ℕ). choice x (ascii " captured ") (ascii " free ")) p8.before.before.before.captured.ensures.is) in
-    let q9 = puts-is p9.put-source.ensures (ap₂ sourceText p9.before.before.from-module.ensures.is p9.before.source.ensures.is) in
-    puts-line (puts_then q1 (puts_then q2 (puts_then q3 (puts_then q4 (puts_then q5 (puts_then q6 (puts_then q7 (puts_then q8 (puts_then q9 p10.put-bytes2.ensures)))))))))
+    let q3 = puts_is p3.put-name.ensures (ap (name_text file) p3.before.name.ensures.is) in
+    let q4 = puts_is p4.put-choice.ensures (ap (λ (x : ℕ). choice x (ascii " L ") (ascii " M ")) p4.before.before.before.local.ensures.is) in
+    let q5 = puts_is p5.put-decimal.ensures (ap decimal p5.before.slot.ensures.is) in
+    let q6 = puts_is p6.put-choice2.ensures (ap (λ (x : ℕ). choice x (ascii " public") (ascii " private")) p6.before.before.before.public.ensures.is) in
+    let q7 = puts_is p7.put-choice3.ensures (ap (λ (x : ℕ). choice x (ascii " any") (ascii " once")) p7.before.before.before.any.ensures.is) in
+    let q8 = puts_is p8.put-choice4.ensures (ap (λ (x : ℕ). choice x (ascii " captured ") (ascii " free ")) p8.before.before.before.captured.ensures.is) in
+    let q9 = puts_is p9.put-source.ensures (ap₂ source_text p9.before.before.from-module.ensures.is p9.before.source.ensures.is) in
+    puts_line (puts_then q1 (puts_then q2 (puts_then q3 (puts_then q4 (puts_then q5 (puts_then q6 (puts_then q7 (puts_then q8 (puts_then q9 p10.put-bytes2.ensures)))))))))
 
 same_length : tie.Need-same-length
 same_length c = (returns c).long
 
-pub put-binding-spec : {M : Type 1} → statement M
-put-binding-spec =
+pub put_binding_spec : {M : Type 1} → statement M
+put_binding_spec =
     tie.close
     (tie.spec
     slice-aggregate-put-number

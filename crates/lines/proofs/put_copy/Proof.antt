@@ -1,8 +1,8 @@
 -- `lines::put_copy` meets its contract: piece by piece.
 -- Assumes nothing.
 use mathlib.Core.Path.{refl}
-use Rattle.lines.specs.Lines.{copyLine}
-use Rattle.text.specs.Laws.{puts_then, puts-text}
+use Rattle.lines.specs.Lines.{copy_line}
+use Rattle.text.specs.Laws.{puts_then, puts_text}
 use Rattle.lines.proofs.put_copy.Statement.{statement}
 use Rattle.lines.proofs.put_copy.Tie as tie
 
@@ -40,19 +40,19 @@ put-bytes-requires : tie.Need-put-bytes-requires
 put-bytes-requires c κs = tt
 
 returns : tie.Need-returns
-unfolding copyLine
+unfolding copy_line
 returns c =
     let p4 = c.before.before in
     let p3 = p4.before.before.before.before.before in
     let p2 = p3.before.before.before.before.before.before in
     let p1 = p2.before.before.before.before.before.before in
-    puts-text (puts_then p1.put-number.ensures (puts_then p2.put-number2.ensures (puts_then p3.put-number3.ensures p4.put-bytes.ensures))) (rw (p1.before.scope.ensures.is, p2.before.parent.ensures.is, p3.before.child.ensures.is) refl)
+    puts_text (puts_then p1.put-number.ensures (puts_then p2.put-number2.ensures (puts_then p3.put-number3.ensures p4.put-bytes.ensures))) (rw (p1.before.scope.ensures.is, p2.before.parent.ensures.is, p3.before.child.ensures.is) refl)
 
 same_length : tie.Need-same-length
 same_length c = (returns c).long
 
-pub put-copy-spec : {M : Type 1} → statement M
-put-copy-spec =
+pub put_copy_spec : {M : Type 1} → statement M
+put_copy_spec =
     tie.close
     (tie.spec
     slice-aggregate-put-number

@@ -1,8 +1,8 @@
 -- `lines::put_counts` meets its contract: piece by piece.
 -- Assumes nothing.
 use mathlib.Core.Path.{refl}
-use Rattle.lines.specs.Lines.{countsLine}
-use Rattle.text.specs.Laws.{puts_then, puts-line}
+use Rattle.lines.specs.Lines.{counts_line}
+use Rattle.text.specs.Laws.{puts_then, puts_line}
 use Rattle.lines.proofs.put_counts.Statement.{statement}
 use Rattle.lines.proofs.put_counts.Tie as tie
 
@@ -43,7 +43,7 @@ put-bytes-requires : tie.Need-put-bytes-requires
 put-bytes-requires c κs = tt
 
 returns : tie.Need-returns
-unfolding countsLine
+unfolding counts_line
 returns c =
     let p6 = c.before.before in
     let p5 = p6.before.before.before.before.before in
@@ -51,13 +51,13 @@ returns c =
     let p3 = p4.before.before.before.before.before in
     let p2 = p3.before.before.before.before.before in
     let p1 = p2.before.before.before.before.before in
-    puts-line (puts_then p1.put-number.ensures (puts_then p2.put-number2.ensures (puts_then p3.put-number3.ensures (puts_then p4.put-number4.ensures (puts_then p5.put-number5.ensures p6.put-bytes.ensures)))))
+    puts_line (puts_then p1.put-number.ensures (puts_then p2.put-number2.ensures (puts_then p3.put-number3.ensures (puts_then p4.put-number4.ensures (puts_then p5.put-number5.ensures p6.put-bytes.ensures)))))
 
 same_length : tie.Need-same-length
 same_length c = (returns c).long
 
-pub put-counts-spec : {M : Type 1} → statement M
-put-counts-spec =
+pub put_counts_spec : {M : Type 1} → statement M
+put_counts_spec =
     tie.close
     (tie.spec
     slice-aggregate-put-number

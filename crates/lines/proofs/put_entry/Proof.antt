@@ -1,8 +1,8 @@
 -- `lines::put_entry` meets its contract: piece by piece.
 -- Assumes nothing.
 use mathlib.Core.Path.{refl}
-use Rattle.lines.specs.Lines.{entryLine}
-use Rattle.text.specs.Laws.{puts_then, puts-text}
+use Rattle.lines.specs.Lines.{entry_line}
+use Rattle.text.specs.Laws.{puts_then, puts_text}
 use Rattle.lines.proofs.put_entry.Statement.{statement}
 use Rattle.lines.proofs.put_entry.Tie as tie
 
@@ -40,19 +40,19 @@ put-choice-requires : tie.Need-put-choice-requires
 put-choice-requires c κs = tt
 
 returns : tie.Need-returns
-unfolding entryLine
+unfolding entry_line
 returns c =
     let p4 = c.before.before in
     let p3 = p4.before.before.before.before.before.before.before in
     let p2 = p3.before.before.before.before.before in
     let p1 = p2.before.before.before.before.before in
-    puts-text (puts_then p1.put-number.ensures (puts_then p2.put-bytes.ensures (puts_then p3.put-name.ensures p4.put-choice.ensures))) (rw (p1.before.slot.ensures.is, p3.before.name.ensures.is, p4.before.before.before.public.ensures.is) refl)
+    puts_text (puts_then p1.put-number.ensures (puts_then p2.put-bytes.ensures (puts_then p3.put-name.ensures p4.put-choice.ensures))) (rw (p1.before.slot.ensures.is, p3.before.name.ensures.is, p4.before.before.before.public.ensures.is) refl)
 
 same_length : tie.Need-same-length
 same_length c = (returns c).long
 
-pub put-entry-spec : {M : Type 1} → statement M
-put-entry-spec =
+pub put_entry_spec : {M : Type 1} → statement M
+put_entry_spec =
     tie.close
     (tie.spec
     slice-aggregate-put-number

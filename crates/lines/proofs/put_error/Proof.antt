@@ -1,8 +1,8 @@
 -- `lines::put_error` meets its contract: piece by piece.
 -- Assumes nothing.
 use mathlib.Core.Path.{refl}
-use Rattle.lines.specs.Lines.{errorLine}
-use Rattle.text.specs.Laws.{puts_then, puts-text}
+use Rattle.lines.specs.Lines.{error_line}
+use Rattle.text.specs.Laws.{puts_then, puts_text}
 use Rattle.lines.proofs.put_error.Statement.{statement}
 use Rattle.lines.proofs.put_error.Tie as tie
 
@@ -43,7 +43,7 @@ put-bytes-requires-2 : tie.Need-put-bytes-requires-2
 put-bytes-requires-2 c κs = tt
 
 returns : tie.Need-returns
-unfolding errorLine
+unfolding error_line
 returns c =
     let p7 = c.before.before in
     let p6 = p7.before.before.before.before.before in
@@ -52,13 +52,13 @@ returns c =
     let p3 = p4.before.before.before.before.before in
     let p2 = p3.before.before.before.before.before.before in
     let p1 = p2.before.before.before in
-    puts-text (puts_then p2.put-number.ensures (puts_then p3.put-number2.ensures (puts_then p4.put-bytes.ensures (puts_then p6.put-name.ensures p7.put-bytes2.ensures)))) (rw (p5.value.ensures.is, p1.node.ensures.is, p3.before.code.ensures.is) refl)
+    puts_text (puts_then p2.put-number.ensures (puts_then p3.put-number2.ensures (puts_then p4.put-bytes.ensures (puts_then p6.put-name.ensures p7.put-bytes2.ensures)))) (rw (p5.value.ensures.is, p1.node.ensures.is, p3.before.code.ensures.is) refl)
 
 same_length : tie.Need-same-length
 same_length c = (returns c).long
 
-pub put-error-spec : {M : Type 1} → statement M
-put-error-spec =
+pub put_error_spec : {M : Type 1} → statement M
+put_error_spec =
     tie.close
     (tie.spec
     node-requires

@@ -42,8 +42,8 @@ same_length c = c.before.loop.invariant.1.puts.long
 returns : tie.Need-returns invariant-loop decreases-loop
 returns c = rows_end c.before.loop.invariant.1 c.before.loop.invariant.0 c.loop-test.false
 
-pub put-names-spec : {M : Type 1} → statement M
-put-names-spec =
+pub put_names_spec : {M : Type 1} → statement M
+put_names_spec =
     tie.close
     (tie.spec
     invariant-loop

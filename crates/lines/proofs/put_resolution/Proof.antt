@@ -3,8 +3,8 @@
 use mathlib.Core.Path.{refl, sym, ◌∙◌}
 use borrow.Author.Rules.{rules}
 use borrow.Author.Tests.{eq-eqb, ne_eqb}
-use Rattle.text.specs.Laws.{puts_then, puts-text}
-use Rattle.lines.specs.Lines.{resolutionText}
+use Rattle.text.specs.Laws.{puts_then, puts_text}
+use Rattle.lines.specs.Lines.{resolution_text}
 use Rattle.lines.proofs.put_resolution.Statement.{statement}
 use Rattle.lines.proofs.put_resolution.Tie as tie
 
@@ -30,12 +30,12 @@ same_length : tie.Need-same-length
 same_length c = search rules
 
 returns : tie.Need-returns
-unfolding resolutionText
+unfolding resolution_text
 returns c =
     let p3 = c.before.before in
     let p2 = p3.before.before.before.before.before in
     let p1 = p2.before.before.before.before in
-    rw (eq-eqb _ _ (sym p1.before.class.ensures.is ∙ p1.if1.true)) (puts-text (puts_then p2.put-number.ensures p3.put-bytes.ensures) (rw p2.before.slot.ensures.is refl))
+    rw (eq-eqb _ _ (sym p1.before.class.ensures.is ∙ p1.if1.true)) (puts_text (puts_then p2.put-number.ensures p3.put-bytes.ensures) (rw p2.before.slot.ensures.is refl))
 
 class-requires-2 : tie.Need-class-requires-2
 class-requires-2 c κs = tt
@@ -71,20 +71,20 @@ put-bytes-requires-2 : tie.Need-put-bytes-requires-2
 put-bytes-requires-2 c κs = tt
 
 returns-2 : tie.Need-returns-2
-unfolding resolutionText
+unfolding resolution_text
 returns-2 c =
     let p5 = c.before.before in
     let p4 = p5.before.before.before.before.before in
     let p3 = p4.before.before.before.before.before.before in
     let p2 = p3.before.before.before.before.before in
     let p1 = p2.before.before.before.before.before in
-    rw (ne_eqb _ _ (λ e. p1.if1.false (p1.before.class.ensures.is ∙ e))) (puts-text (puts_then p2.put-choice.ensures (puts_then p3.put-decimal.ensures (puts_then p4.put-number2.ensures p5.put-bytes2.ensures))) (rw (p2.before.before.before.class2.ensures.is, p3.before.slot2.ensures.is, p4.before.binding.ensures.is) refl))
+    rw (ne_eqb _ _ (λ e. p1.if1.false (p1.before.class.ensures.is ∙ e))) (puts_text (puts_then p2.put-choice.ensures (puts_then p3.put-decimal.ensures (puts_then p4.put-number2.ensures p5.put-bytes2.ensures))) (rw (p2.before.before.before.class2.ensures.is, p3.before.slot2.ensures.is, p4.before.binding.ensures.is) refl))
 
 same-length-2 : tie.Need-same-length-2
 same-length-2 c = (returns-2 c).long
 
-pub put-resolution-spec : {M : Type 1} → statement M
-put-resolution-spec =
+pub put_resolution_spec : {M : Type 1} → statement M
+put_resolution_spec =
     tie.close
     (tie.spec
     class-requires

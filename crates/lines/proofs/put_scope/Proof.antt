@@ -1,8 +1,8 @@
 -- `lines::put_scope` meets its contract: piece by piece.
 -- Assumes nothing.
 use mathlib.Core.Path.{refl}
-use Rattle.lines.specs.Lines.{scopeLine}
-use Rattle.text.specs.Laws.{puts_then, puts-text}
+use Rattle.lines.specs.Lines.{scope_line}
+use Rattle.text.specs.Laws.{puts_then, puts_text}
 use Rattle.lines.proofs.put_scope.Statement.{statement}
 use Rattle.lines.proofs.put_scope.Tie as tie
 
@@ -37,20 +37,20 @@ put-bytes-requires-2 : tie.Need-put-bytes-requires-2
 put-bytes-requires-2 c κs = tt
 
 returns : tie.Need-returns
-unfolding scopeLine
+unfolding scope_line
 returns c =
     let p5 = c.before.before in
     let p4 = p5.before.before.before.before.before in
     let p3 = p4.before.before.before.before in
     let p2 = p3.before.before.before.before.before in
     let p1 = p2.before.before.before.before.before.before in
-    puts-text (puts_then p1.put-number.ensures (puts_then p2.put-number2.ensures (puts_then p3.put-bytes.ensures (puts_then p4.put-names.ensures p5.put-bytes2.ensures)))) (rw p2.before.params.ensures.is refl)
+    puts_text (puts_then p1.put-number.ensures (puts_then p2.put-number2.ensures (puts_then p3.put-bytes.ensures (puts_then p4.put-names.ensures p5.put-bytes2.ensures)))) (rw p2.before.params.ensures.is refl)
 
 same_length : tie.Need-same-length
 same_length c = (returns c).long
 
-pub put-scope-spec : {M : Type 1} → statement M
-put-scope-spec =
+pub put_scope_spec : {M : Type 1} → statement M
+put_scope_spec =
     tie.close
     (tie.spec
     slice-aggregate-put-number

@@ -34,8 +34,8 @@ returns c = search rules
 returns-2 : tie.Need-returns-2
 returns-2 c = search rules
 
-pub show-spec : {M : Type 1} → statement M
-show-spec =
+pub show_spec : {M : Type 1} → statement M
+show_spec =
     tie.close
     (tie.spec
     large-buffer-requires

@@ -38,8 +38,8 @@ returns c = tt
 returns-2 : tie.Need-returns-2 invariant-loop decreases-loop
 returns-2 c = tt
 
-pub show-all-spec : {M : Type 1} → statement M
-show-all-spec =
+pub show_all_spec : {M : Type 1} → statement M
+show_all_spec =
     tie.close
     (tie.spec
     invariant-loop

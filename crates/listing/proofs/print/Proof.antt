@@ -2,7 +2,7 @@
 -- Assumes nothing.
 use borrow.Author.Rules.{rules}
 use borrow.Author.Tests.{eq-eqb, ne_eqb}
-use Rattle.text.specs.Laws.{window-of}
+use Rattle.text.specs.Laws.{window_of}
 use Rattle.listing.specs.Text.{text_of}
 use Rattle.listing.proofs.print.Statement.{statement}
 use Rattle.listing.proofs.print.Tie as tie
@@ -26,7 +26,7 @@ returns c =
     let p3 = p4.before.before.before.before in
     let p2 = p3.before.before in
     let p1 = p2.before.before in
-    rw (ne_eqb _ _ p2.if1.true) (window-of p1.start.ensures p3.put-refusal.ensures p4.finish.ensures)
+    rw (ne_eqb _ _ p2.if1.true) (window_of p1.start.ensures p3.put-refusal.ensures p4.finish.ensures)
 
 put-accepted-requires : tie.Need-put-accepted-requires
 put-accepted-requires c κs = tt
@@ -44,10 +44,10 @@ returns-2 c =
     let p3 = p4.before.before.before.before in
     let p2 = p3.before.before in
     let p1 = p2.before.before in
-    rw (eq-eqb _ _ p2.if1.false) (window-of p1.start.ensures p3.put-accepted.ensures p4.finish2.ensures)
+    rw (eq-eqb _ _ p2.if1.false) (window_of p1.start.ensures p3.put-accepted.ensures p4.finish2.ensures)
 
-pub print-spec : {M : Type 1} → statement M
-print-spec =
+pub print_spec : {M : Type 1} → statement M
+print_spec =
     tie.close
     (tie.spec
     start-requires

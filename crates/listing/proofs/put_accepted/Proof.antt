@@ -3,8 +3,8 @@
 use Prim.Native.Nat.{ℕ}
 use mathlib.Core.Path.{ap}
 use mathlib.Core.List.{List}
-use Rattle.text.specs.Laws.{puts_then, puts-is, puts-line}
-use Rattle.listing.specs.Text.{bindingLines, entryLines, scopeLines, copy_lines, errorLines}
+use Rattle.text.specs.Laws.{puts_then, puts_is, puts_line}
+use Rattle.listing.specs.Text.{binding_lines, entry_lines, scope_lines, copy_lines, error_lines}
 use Rattle.listing.proofs.put_accepted.Statement.{statement}
 use Rattle.listing.proofs.put_accepted.Tie as tie
 
@@ -59,13 +59,13 @@ returns c =
     let p3 = p4.before in
     let p2 = p3.before.before.before.before in
     let p1 = p2.before.before.before.before.before.before.before.before.before.before.before in
-    puts-line (puts_then p2.put-counts.ensures (puts_then (puts-is p4.put-bindings.ensures (ap (λ (l : List ℕ). bindingLines p1.args.file.now l) p3.front64.ensures)) (puts_then (puts-is p6.put_entries.ensures (ap (λ (l : List ℕ). entryLines p1.args.file.now l) p5.front32.ensures)) (puts_then (puts-is p8.put-scopes.ensures (ap (λ (l : List ℕ). scopeLines p1.args.file.now p1.args.scopes.now l) p7.front322.ensures)) (puts_then (puts-is p10.put-copies.ensures (ap (λ (l : List ℕ). copy_lines l) p9.front323.ensures)) (puts_then p11.put-idents.ensures (puts-is p13.put-errors.ensures (ap (λ (l : List ℕ). errorLines p1.args.file.now l) p12.front324.ensures))))))))
+    puts_line (puts_then p2.put-counts.ensures (puts_then (puts_is p4.put-bindings.ensures (ap (λ (l : List ℕ). binding_lines p1.args.file.now l) p3.front64.ensures)) (puts_then (puts_is p6.put_entries.ensures (ap (λ (l : List ℕ). entry_lines p1.args.file.now l) p5.front32.ensures)) (puts_then (puts_is p8.put-scopes.ensures (ap (λ (l : List ℕ). scope_lines p1.args.file.now p1.args.scopes.now l) p7.front322.ensures)) (puts_then (puts_is p10.put-copies.ensures (ap (λ (l : List ℕ). copy_lines l) p9.front323.ensures)) (puts_then p11.put-idents.ensures (puts_is p13.put-errors.ensures (ap (λ (l : List ℕ). error_lines p1.args.file.now l) p12.front324.ensures))))))))
 
 same_length : tie.Need-same-length
 same_length c = (returns c).long
 
-pub put-accepted-spec : {M : Type 1} → statement M
-put-accepted-spec =
+pub put_accepted_spec : {M : Type 1} → statement M
+put_accepted_spec =
     tie.close
     (tie.spec
     put-counts-requires

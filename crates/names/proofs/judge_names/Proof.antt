@@ -8,9 +8,9 @@ use Rattle.base.specs.Says.{Says, says-true, says-false}
 use Rattle.base.specs.First.{here, later}
 use Rattle.base.specs.UpTo.{up_to}
 use Rattle.names.specs.Names.{BadNames}
-use Rattle.names.specs.Lists.{BadList, bad-entry, bad-global}
+use Rattle.names.specs.Lists.{BadList, bad_entry, bad_global}
 use Rattle.names.specs.Inside.Line.{line_of}
-use Rattle.names.proofs.Lines.{no-lists}
+use Rattle.names.proofs.Lines.{no_lists}
 use borrow.Author.Rules.{rules}
 use Rattle.names.proofs.judge_names.Statement.{statement}
 use Rattle.names.proofs.judge_names.Tie as tie
@@ -56,7 +56,7 @@ returns-2 c =
     let bad-list' = c.before.bad-list in
     let five' = subst₃ (λ (n : ℕ) (nm pool : List ℕ). Says bad-names'.result (BadNames n nm pool)) name-count'.ensures.is names'.ensures pool'.ensures bad-names'.ensures in
     let entry' = subst₃ (λ (k n : ℕ) (es : List ℕ). Says bad-list'.result (BadList k (up_to (line_of es true) n))) name-count'.ensures.is c.before.before.entry-count.ensures.is c.before.before.before.entries.ensures bad-list'.ensures in
-    later (says-false c.before.before.before.before.if1.false five') (here (bad-entry (says-true c.if2.true entry')) refl)
+    later (says-false c.before.before.before.before.if1.false five') (here (bad_entry (says-true c.if2.true entry')) refl)
 
 globals-requires : tie.Need-globals-requires
 globals-requires c κs = search rules
@@ -80,7 +80,7 @@ returns-3 c =
     let if1' = c.before.before.before.before.before.before.before.before.if1 in
     let five' = subst₃ (λ (n : ℕ) (nm pool : List ℕ). Says bad-names'.result (BadNames n nm pool)) name-count'.ensures.is names'.ensures pool'.ensures bad-names'.ensures in
     let global' = subst₃ (λ (k n : ℕ) (gs : List ℕ). Says bad-list2'.result (BadList k (up_to (line_of gs false) n))) name-count'.ensures.is c.before.before.global-count.ensures.is c.before.before.before.globals.ensures bad-list2'.ensures in
-    later (says-false if1'.false five') (here (bad-global (says-true c.if3.true global')) refl)
+    later (says-false if1'.false five') (here (bad_global (says-true c.if3.true global')) refl)
 
 returns-4 : tie.Need-returns-4
 returns-4 c =
@@ -96,10 +96,10 @@ returns-4 c =
     let five' = subst₃ (λ (n : ℕ) (nm pool : List ℕ). Says bad-names'.result (BadNames n nm pool)) name-count'.ensures.is names'.ensures pool'.ensures bad-names'.ensures in
     let entry' = subst₃ (λ (k n : ℕ) (es : List ℕ). Says bad-list'.result (BadList k (up_to (line_of es true) n))) name-count'.ensures.is entry-count'.ensures.is entries'.ensures bad-list'.ensures in
     let global' = subst₃ (λ (k n : ℕ) (gs : List ℕ). Says bad-list2'.result (BadList k (up_to (line_of gs false) n))) name-count'.ensures.is c.before.before.global-count.ensures.is c.before.before.before.globals.ensures bad-list2'.ensures in
-    later (says-false if1'.false five') (later (no-lists (says-false c.before.before.before.before.if2.false entry') (says-false c.if3.false global')) refl)
+    later (says-false if1'.false five') (later (no_lists (says-false c.before.before.before.before.if2.false entry') (says-false c.if3.false global')) refl)
 
-pub judge-names-spec : {M : Type 1} → statement M
-judge-names-spec =
+pub judge_names_spec : {M : Type 1} → statement M
+judge_names_spec =
     tie.close
     (tie.spec
     name-count-requires

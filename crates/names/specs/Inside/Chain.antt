@@ -3,12 +3,12 @@ use Rattle.std.specs.Prelude.{ℕ, suc, ◌+◌, ◌*◌, ◌%◌, ◌≤◌, �
 use Rattle.nodefile.specs.Lists.{spelled}
 
 -- a number below 1,024 for a spelling
-abbrev pub hashFrom : ℕ → List ℕ → ℕ
-hashFrom h [] = h
-hashFrom h (x ∷ xs) = hashFrom ((h * 31 + x) % 1024) xs
+abbrev pub hash_from : ℕ → List ℕ → ℕ
+hash_from h [] = h
+hash_from h (x ∷ xs) = hash_from ((h * 31 + x) % 1024) xs
 
-abbrev pub hashOf : List ℕ → ℕ
-hashOf s = hashFrom 0 s
+abbrev pub hash_of : List ℕ → ℕ
+hash_of s = hash_from 0 s
 
 -- each link leads to a name before: `suc i` to name i, 0 to none
 pub record Links (links : List ℕ) : Type 0 where

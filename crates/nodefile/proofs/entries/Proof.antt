@@ -18,6 +18,6 @@ part-requires c κs = search rules
 returns : tie.Need-returns
 returns c = cc
 
-pub entries-spec : {M : Type 1} → statement M
-entries-spec =
+pub entries_spec : {M : Type 1} → statement M
+entries_spec =
     tie.close (tie.spec entries-at-requires entry-count-requires mul-part part-requires returns)

@@ -15,5 +15,5 @@ returns c =
     let a = c.before.before.args in
     record { is = c.record-field.ensures.is ∙ ap (λ (x : ℕ). field_of a.es.now x 16) (add-zero (32 * a.k)); below = c.record-field.ensures.below }
 
-pub entry-name-spec : {M : Type 1} → statement M
-entry-name-spec = tie.close (tie.spec record-field-requires returns)
+pub entry_name_spec : {M : Type 1} → statement M
+entry_name_spec = tie.close (tie.spec record-field-requires returns)

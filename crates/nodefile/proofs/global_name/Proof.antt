@@ -15,5 +15,5 @@ returns c =
     let a = c.before.before.args in
     record { is = c.record-field.ensures.is ∙ ap (λ (x : ℕ). field_of a.gs.now x 16) (add-zero (16 * a.k)); below = c.record-field.ensures.below }
 
-pub global-name-spec : {M : Type 1} → statement M
-global-name-spec = tie.close (tie.spec record-field-requires returns)
+pub global_name_spec : {M : Type 1} → statement M
+global_name_spec = tie.close (tie.spec record-field-requires returns)

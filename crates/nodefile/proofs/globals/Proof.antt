@@ -18,6 +18,6 @@ part-requires c κs = search rules
 returns : tie.Need-returns
 returns c = cc
 
-pub globals-spec : {M : Type 1} → statement M
-globals-spec =
+pub globals_spec : {M : Type 1} → statement M
+globals_spec =
     tie.close (tie.spec globals-at-requires global-count-requires mul-part part-requires returns)

@@ -24,5 +24,5 @@ shared-slice-read-result c = search rules
 returns-2 : tie.Need-returns-2
 returns-2 c = ap (λ (l : List ℕ). eqb (get_or l 0 0) 95) c.before.before.spelled.ensures
 
-pub hidden-spec : {M : Type 1} → statement M
-hidden-spec = tie.close (tie.spec spelled-requires returns shared-slice-read-result returns-2)
+pub hidden_spec : {M : Type 1} → statement M
+hidden_spec = tie.close (tie.spec spelled-requires returns shared-slice-read-result returns-2)

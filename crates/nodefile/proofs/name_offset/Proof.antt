@@ -15,5 +15,5 @@ returns c =
     let a = c.before.before.args in
     record { is = c.record-field.ensures.is ∙ ap (λ (x : ℕ). field_of a.nm.now x 16) (add-zero (24 * a.k)); below = c.record-field.ensures.below }
 
-pub name-offset-spec : {M : Type 1} → statement M
-name-offset-spec = tie.close (tie.spec record-field-requires returns)
+pub name_offset_spec : {M : Type 1} → statement M
+name_offset_spec = tie.close (tie.spec record-field-requires returns)

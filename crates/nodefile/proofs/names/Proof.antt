@@ -18,6 +18,6 @@ part-requires c κs = search rules
 returns : tie.Need-returns
 returns c = cc
 
-pub names-spec : {M : Type 1} → statement M
-names-spec =
+pub names_spec : {M : Type 1} → statement M
+names_spec =
     tie.close (tie.spec names-at-requires name-count-requires mul-part part-requires returns)

@@ -15,5 +15,5 @@ part-requires c κs = search rules
 returns : tie.Need-returns
 returns c = cc
 
-pub nodes-spec : {M : Type 1} → statement M
-nodes-spec = tie.close (tie.spec node-count-requires mul-part part-requires returns)
+pub nodes_spec : {M : Type 1} → statement M
+nodes_spec = tie.close (tie.spec node-count-requires mul-part part-requires returns)

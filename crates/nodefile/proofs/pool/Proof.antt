@@ -15,5 +15,5 @@ part-requires c κs = search rules
 returns : tie.Need-returns
 returns c = cc
 
-pub pool-spec : {M : Type 1} → statement M
-pool-spec = tie.close (tie.spec pool-at-requires pool-bytes-requires part-requires returns)
+pub pool_spec : {M : Type 1} → statement M
+pool_spec = tie.close (tie.spec pool-at-requires pool-bytes-requires part-requires returns)

@@ -6,7 +6,7 @@ use native.Mathlib.Nat.{le-div_iff_mul-le, div-lt_iff_lt-mul, mul_assoc, mul_com
 use lib.Pow.{pow_pos}
 use lib.ListN.{length}
 use Rattle.base.specs.Parts.{part-from}
-use Rattle.bits.specs.FieldLaws.{field-record, field_past, field-read}
+use Rattle.bits.specs.FieldLaws.{field_record, field_past, field_read}
 use borrow.Author.Rules.{rules}
 use Rattle.nodefile.proofs.record_field.Statement.{statement}
 use Rattle.nodefile.proofs.record_field.Tie as tie
@@ -43,10 +43,10 @@ field-requires c κs = search rules
 returns-2 : tie.Need-returns-2
 returns-2 c =
     let a = c.before.before.before.before.args in
-    record { is = field-read (omega arith) (rw part-from at c.field.ensures) ∙ field-record a.list.now a.bytes a.k a.at a.width; below = c.field.ensures.below }
+    record { is = field_read (omega arith) (rw part-from at c.field.ensures) ∙ field_record a.list.now a.bytes a.k a.at a.width; below = c.field.ensures.below }
 
-pub record-field-spec : {M : Type 1} → statement M
-record-field-spec =
+pub record_field_spec : {M : Type 1} → statement M
+record_field_spec =
     tie.close
     (tie.spec
     div-if1

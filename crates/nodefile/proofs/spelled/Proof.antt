@@ -15,5 +15,5 @@ part-requires c κs = search rules
 returns : tie.Need-returns
 returns c = cc
 
-pub spelled-spec : {M : Type 1} → statement M
-spelled-spec = tie.close (tie.spec name-offset-requires name-length-requires part-requires returns)
+pub spelled_spec : {M : Type 1} → statement M
+spelled_spec = tie.close (tie.spec name-offset-requires name-length-requires part-requires returns)

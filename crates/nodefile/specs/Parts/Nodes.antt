@@ -11,30 +11,30 @@ use Rattle.base.specs.Parts.{drop-take}
 use Rattle.bits.specs.FieldLaws.{field-take}
 use Rattle.lexical.specs.Tree.{Forest, nil, node}
 use Rattle.nodefile.specs.Node.{kind_of, size_of, value_of, below, after}
-use Rattle.nodefile.specs.Reads.{Reads, reads-some, reads_none, reads-size, count_of}
+use Rattle.nodefile.specs.Reads.{Reads, reads_some, reads_none, reads_size, count_of}
 use Rattle.nodefile.specs.Valid.{NodeOk, Valid, Some, NameFirst}
 
 -- ---- a node by itself
 
 -- the node that t starts with has the same fields and children in as much of t as has it
 module _ (t : List ℕ) (n : ℕ) (h : 8 ≤ n) where
-  pub kind-take : kind_of (take n t) ≡ kind_of t
-  kind-take = field-take t n 0 5 (omega arith)
+  pub kind_take : kind_of (take n t) ≡ kind_of t
+  kind_take = field-take t n 0 5 (omega arith)
 
-  pub size-take : size_of (take n t) ≡ size_of t
-  size-take = field-take t n 8 16 (omega arith)
+  pub size_take : size_of (take n t) ≡ size_of t
+  size_take = field-take t n 8 16 (omega arith)
 
-  pub value-take : value_of (take n t) ≡ value_of t
-  value-take = field-take t n 24 16 (omega arith)
+  pub value_take : value_of (take n t) ≡ value_of t
+  value_take = field-take t n 24 16 (omega arith)
 
 pub below-take : (t : List ℕ) (n : ℕ) → 0 < size_of t → 8 * size_of t ≤ n → below (take n t) ≡ below t
 below-take t n s h =
-    rw (size-take t n (omega arith), drop-take 8 n t, take-take (8 * size_of t - 8) (n - 8) (drop 8 t) (omega arith))
+    rw (size_take t n (omega arith), drop-take 8 n t, take-take (8 * size_of t - 8) (n - 8) (drop 8 t) (omega arith))
 
 -- and nothing stands after it where it is taken alone
 pub after-take : (t : List ℕ) → 0 < size_of t → after (take (8 * size_of t) t) ≡ []
 after-take t s =
-    rw (size-take t (8 * size_of t) (omega arith))
+    rw (size_take t (8 * size_of t) (omega arith))
     (drop_of_length-le (take (8 * size_of t) t) {i = 8 * size_of t} (omega (arith, length-take (8 * size_of t) t)))
 
 -- the node that starts a part that reads f, by itself, and what follows it
@@ -53,7 +53,7 @@ pub record Split (t : List ℕ) (at : ℕ) (f : Forest) : Type 0 where
 
 pub split : (t : List ℕ) (at : ℕ) (f : Forest) → 0 < length t → Reads t at f → Split t at f
 split t at f h r =
-    let (kids, rest, e, q) = reads-some f t at h r in
+    let (kids, rest, e, q) = reads_some f t at h r in
     record {
       kids = kids;
       rest = rest;
@@ -63,10 +63,10 @@ split t at f h r =
       under = q.under;
       one = record {
         number = refl;
-        kind = sym (kind-take t (8 * size_of t) (omega (arith, q.some)));
-        value = sym (value-take t (8 * size_of t) (omega (arith, q.some)));
-        some = rw (size-take t (8 * size_of t) (omega (arith, q.some))) q.some;
-        inside = rw (size-take t (8 * size_of t) (omega (arith, q.some))) (omega (arith, length-take-le (8 * size_of t) t q.inside));
+        kind = sym (kind_take t (8 * size_of t) (omega (arith, q.some)));
+        value = sym (value_take t (8 * size_of t) (omega (arith, q.some)));
+        some = rw (size_take t (8 * size_of t) (omega (arith, q.some))) q.some;
+        inside = rw (size_take t (8 * size_of t) (omega (arith, q.some))) (omega (arith, length-take-le (8 * size_of t) t q.inside));
         under = rw (below-take t (8 * size_of t) q.some (omega arith)) q.under;
         after = after-take t q.some;
       };
@@ -76,8 +76,8 @@ split t at f h r =
 -- ---- a part that is one node
 
 -- `&part[8..e]` holds its children
-pub kids-part : (t : List ℕ) (e : ℕ) → e ≡ 8 * size_of t → take (e - 8) (drop 8 t) ≡ below t
-kids-part t e h = rw h
+pub kids_part : (t : List ℕ) (e : ℕ) → e ≡ 8 * size_of t → take (e - 8) (drop 8 t) ≡ below t
+kids_part t e h = rw h
 
 pub record One (t : List ℕ) (at : ℕ) (f : Forest) : Type 0 where
   pub kids : Forest
@@ -87,8 +87,8 @@ pub record One (t : List ℕ) (at : ℕ) (f : Forest) : Type 0 where
   pub valid : Valid kids
 
 module _ (t : List ℕ) (some : 0 < size_of t) (whole : 8 * size_of t ≡ length t) where
-  pub kids-length : length (take (length t - 8) (drop 8 t)) ≡ length t - 8
-  kids-length = length-take-le (length t - 8) (drop 8 t) (omega (arith, length-drop 8 t))
+  pub kids_length : length (take (length t - 8) (drop 8 t)) ≡ length t - 8
+  kids_length = length-take-le (length t - 8) (drop 8 t) (omega (arith, length-drop 8 t))
 
   alone-is : (at : ℕ) (f : Forest) → Valid f → Split t at f → One t at f
   unfolding Valid
@@ -96,17 +96,17 @@ module _ (t : List ℕ) (some : 0 < size_of t) (whole : 8 * size_of t ≡ length
       let n : p.rest ≡ nil = reads_none p.rest (after t) (at + size_of t) (omega (arith, length-drop (8 * size_of t) t)) p.after in
       let e : f ≡ alone t at p.kids = p.is ∙ ap (λ (g : Forest). node at (kind_of t) (value_of t) p.kids g) n in
       let q : Valid (alone t at p.kids) = subst Valid e v in
-      record { kids = p.kids; is = e; under = rw (kids-part t (length t) (sym whole)) p.under; ok = q.0; valid = q.1 }
+      record { kids = p.kids; is = e; under = rw (kids_part t (length t) (sym whole)) p.under; ok = q.0; valid = q.1 }
 
   pub one : (at : ℕ) (f : Forest) → Reads t at f → Valid f → One t at f
   one at f r v = alone-is at f v (split t at f (omega arith) r)
 
 -- ---- what children start with
 
-pub some-long : (t : List ℕ) (at : ℕ) (f : Forest) → Reads t at f → Some f → 8 ≤ length t
+pub some_long : (t : List ℕ) (at : ℕ) (f : Forest) → Reads t at f → Some f → 8 ≤ length t
 unfolding Some
-some-long t at nil r h = absurd h
-some-long t at (node a k v kids rest) r h = omega (arith, r.some, r.inside)
+some_long t at nil r h = absurd h
+some_long t at (node a k v kids rest) r h = omega (arith, r.some, r.inside)
 
 -- a Name, and more after it: it has no children, so that it takes 8 bytes
 pub record Named (t : List ℕ) (at : ℕ) (f : Forest) : Type 0 where
@@ -123,7 +123,7 @@ named-is : (t : List ℕ) (at k v : ℕ) (kids rest : Forest) → Reads t at (no
 named-is t at k v kids rest r e ok w h s =
     let q = ok.name h in
     let n : kids ≡ nil = q.1 in
-    let z : size_of t ≡ 1 = reads-size at k v kids rest t at r ∙ ap (λ (g : Forest). 1 + count_of g) n in
+    let z : size_of t ≡ 1 = reads_size at k v kids rest t at r ∙ ap (λ (g : Forest). 1 + count_of g) n in
     record {
       rest = rest;
       is = cc;

@@ -12,5 +12,5 @@ returns-2 : tie.Need-returns-2
 unfolding bit
 returns-2 c = rw c.if1.false refl
 
-pub flag-spec : {M : Type 1} → statement M
-flag-spec = tie.close (tie.spec returns returns-2)
+pub flag_spec : {M : Type 1} → statement M
+flag_spec = tie.close (tie.spec returns returns-2)

@@ -8,17 +8,17 @@ use lib.Dec.{eqb}
 use lib.ListN.{length, length-set}
 use Rattle.base.specs.UpTo.{up_to}
 use Rattle.lexical.specs.Tree.{Forest, nil}
-use Rattle.nodefile.specs.Layout.{entryCount, entriesOf}
-use Rattle.nodefile.specs.Lists.{entryName, entryPublic, entrySlot}
-use Rattle.nodefile.specs.FileOf.{fileOf}
-use Rattle.store.specs.Blocks.{moduleBlock}
+use Rattle.nodefile.specs.Layout.{entry_count, entries_of}
+use Rattle.nodefile.specs.Lists.{entry_name, entry_public, entry_slot}
+use Rattle.nodefile.specs.FileOf.{file_of}
+use Rattle.store.specs.Blocks.{module_block}
 use Rattle.note.specs.Noted.{ListsOk, Entered}
-use Rattle.note.proofs.Entries.{entered-none, firstVars, EntryRead, entries-more, entries-all}
+use Rattle.note.proofs.Entries.{entered-none, first_vars, EntryRead, entries_more, entries_all}
 use Rattle.note.proofs.note_entries.Statement.{statement}
 use Rattle.note.proofs.note_entries.Tie as tie
 
 abbrev invariant-loop : tie.invariant-loop
-invariant-loop file binds₀ t₀ es n k₀ binds t k = (k ≤ n) × (length binds ≡ length binds₀) × ((root : Forest) → Entered (moduleBlock (fileOf file root)) (firstVars file k) t₀ binds t)
+invariant-loop file binds₀ t₀ es n k₀ binds t k = (k ≤ n) × (length binds ≡ length binds₀) × ((root : Forest) → Entered (module_block (file_of file root)) (first_vars file k) t₀ binds t)
 
 abbrev decreases-loop : tie.decreases-loop
 decreases-loop file binds₀ t₀ es n k₀ binds t k = n - k
@@ -40,27 +40,27 @@ module _ (l : tie.At-loop invariant-loop decreases-loop) where
 
 -- ---- entry k
 
-inside : (c : tie.In-loop invariant-loop decreases-loop) → c.before.loop.k < entryCount (bytes c.before)
+inside : (c : tie.In-loop invariant-loop decreases-loop) → c.before.loop.k < entry_count (bytes c.before)
 inside c = omega (arith, c.before.before.entry-count.ensures.is)
 
 few : (c : tie.In-loop invariant-loop decreases-loop) → c.before.loop.k < 256
 few c = omega (arith, inside c, (ok c.before).entries)
 
-named : (c : tie.After-entry-name invariant-loop decreases-loop) → c.entry-name.result ≡ entryName (entriesOf (bytes c.before.before)) c.before.before.loop.k
-named c = c.entry-name.ensures.is ∙ ap (λ (es : List ℕ). entryName es c.before.before.loop.k) c.before.before.before.before.entries.ensures
+named : (c : tie.After-entry-name invariant-loop decreases-loop) → c.entry_name_lem.result ≡ entry_name (entries_of (bytes c.before.before)) c.before.before.loop.k
+named c = c.entry_name_lem.ensures.is ∙ ap (λ (es : List ℕ). entry_name es c.before.before.loop.k) c.before.before.before.before.entries.ensures
 
-low : (c : tie.After-entry-name invariant-loop decreases-loop) → c.entry-name.result < 1024
-low c = rw (named c) ((ok c.before.before).entry-name c.before.before.loop.k (inside c.before))
+low : (c : tie.After-entry-name invariant-loop decreases-loop) → c.entry_name_lem.result < 1024
+low c = rw (named c) ((ok c.before.before).entry_name_lem c.before.before.loop.k (inside c.before))
 
-read : (c : tie.After-entry-slot invariant-loop decreases-loop) → let l = c.before.before.before.before in EntryRead (bytes l) l.loop.k c.before.before.entry-name.result c.entry-slot.result (eqb c.before.entry-public.result 1)
+read : (c : tie.After-entry-slot invariant-loop decreases-loop) → let l = c.before.before.before.before in EntryRead (bytes l) l.loop.k c.before.before.entry_name_lem.result c.entry-slot.result (eqb c.before.entry-public.result 1)
 read c =
     let l = c.before.before.before.before in
     let e = l.before.before.entries.ensures in
     record {
-      name-is = named c.before.before;
-      public-is = ap (λ (x : ℕ). eqb x 1) (c.before.entry-public.ensures.is ∙ ap (λ (es : List ℕ). entryPublic es l.loop.k) e);
-      slot_is = c.entry-slot.ensures.is ∙ ap (λ (es : List ℕ). entrySlot es l.loop.k) e;
-      slot-low = c.entry-slot.ensures.below;
+      name_is = named c.before.before;
+      public_is = ap (λ (x : ℕ). eqb x 1) (c.before.entry-public.ensures.is ∙ ap (λ (es : List ℕ). entry_public es l.loop.k) e);
+      slot_is = c.entry-slot.ensures.is ∙ ap (λ (es : List ℕ). entry_slot es l.loop.k) e;
+      slot_low = c.entry-slot.ensures.below;
     }
 
 -- ---- the needs
@@ -75,7 +75,7 @@ loop-holds : tie.Need-loop-init invariant-loop decreases-loop
 unfolding up_to
 loop-holds c =
     let start = c.before.before.before.before.before in
-    (omega arith, refl, λ root. entered-none (fileOf start.args.file.now root) _ _ start.requires.3 start.requires.4)
+    (omega arith, refl, λ root. entered-none (file_of start.args.file.now root) _ _ start.requires.3 start.requires.4)
 
 entry-name-requires : tie.Need-entry-name-requires invariant-loop decreases-loop
 entry-name-requires c κs = search rules
@@ -90,7 +90,7 @@ put-binding-requires : tie.Need-put-binding-requires invariant-loop decreases-lo
 put-binding-requires c κs =
     let here = c.before.before.before in
     let h = few here.before in
-    (omega (arith, long here.before.before), here.entry-name.ensures.below, omega arith, omega (arith, c.before.entry-slot.ensures.below))
+    (omega (arith, long here.before.before), here.entry_name_lem.ensures.below, omega arith, omega (arith, c.before.entry-slot.ensures.below))
 
 put-known-requires : tie.Need-put-known-requires invariant-loop decreases-loop
 put-known-requires c κs = let here = c.before.before.before.before.before.before.before in (low here, omega (arith, few here.before), long-t here.before.before)
@@ -110,7 +110,7 @@ loop-again c =
       rw stored (simp length-set l.loop.invariant.1),
       λ root.
           rw (stored, c.before.before.put-known.ensures)
-          (entries-more (bytes l) root l.loop.k (l.loop.invariant.2 root) _ _ _ (ok l) (inside here.before.before.before) (read here) (long l) l.before.before.before.before.before.before.requires.1),
+          (entries_more (bytes l) root l.loop.k (l.loop.invariant.2 root) _ _ _ (ok l) (inside here.before.before.before) (read here) (long l) l.before.before.before.before.before.before.requires.1),
     )
 
 same_length : tie.Need-same-length invariant-loop decreases-loop
@@ -122,10 +122,10 @@ same-length-2 c = (c.before.loop.invariant.2 nil).names.long
 returns : tie.Need-returns invariant-loop decreases-loop
 returns c =
     let l = c.before in
-    (l.before.entry-count.ensures.is, λ root. entries-all (bytes l) root l.loop.k (l.loop.invariant.2 root) (omega (arith, l.before.entry-count.ensures.is)))
+    (l.before.entry-count.ensures.is, λ root. entries_all (bytes l) root l.loop.k (l.loop.invariant.2 root) (omega (arith, l.before.entry-count.ensures.is)))
 
-pub note-entries-spec : {M : Type 1} → statement M
-note-entries-spec =
+pub note_entries_spec : {M : Type 1} → statement M
+note_entries_spec =
     tie.close
     (tie.spec
     invariant-loop

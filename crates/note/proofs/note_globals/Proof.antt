@@ -6,18 +6,18 @@ use mathlib.Core.List.{List, [], ◌∷◌, ◌++◌}
 use native.Mathlib.Omega.{arith}
 use native.Mathlib.Numerals.{add-one}
 use lib.ListN.{length, set}
-use Rattle.base.specs.UpTo.{up_to, upTo-snoc, upTo-length}
+use Rattle.base.specs.UpTo.{up_to, up_to_snoc, up_to_length}
 use Rattle.lexical.specs.Lists.{place}
-use Rattle.nodefile.specs.Layout.{globalCount, globals_of}
-use Rattle.nodefile.specs.Lists.{globalName}
+use Rattle.nodefile.specs.Layout.{global_count, globals_of}
+use Rattle.nodefile.specs.Lists.{global_name}
 use Rattle.store.specs.Sections.{plus}
-use Rattle.note.specs.Noted.{NumbersNoted, unlessNoted, globalsUpTo}
+use Rattle.note.specs.Noted.{NumbersNoted, unless_noted, globals_up_to}
 use Rattle.note.proofs.Filling.{numbers-none, numbers_more}
 use Rattle.note.proofs.note_globals.Statement.{statement}
 use Rattle.note.proofs.note_globals.Tie as tie
 
 abbrev invariant-loop : tie.invariant-loop
-invariant-loop file t₀ gs n k₀ t k = (k ≤ n) × NumbersNoted 2048 (globalsUpTo file k) t₀ t
+invariant-loop file t₀ gs n k₀ t k = (k ≤ n) × NumbersNoted 2048 (globals_up_to file k) t₀ t
 
 abbrev decreases-loop : tie.decreases-loop
 decreases-loop file t₀ gs n k₀ t k = n - k
@@ -27,15 +27,15 @@ bytes l = l.before.before.before.before.before.args.file.now
 
 -- ---- global k: its name, and its place
 
-named : (c : tie.After-global-name invariant-loop decreases-loop) → c.global-name.result ≡ globalName (globals_of (bytes c.before.before)) c.before.before.loop.k
-named c = c.global-name.ensures.is ∙ ap (λ (gs : List ℕ). globalName gs c.before.before.loop.k) c.before.before.before.before.globals.ensures
+named : (c : tie.After-global-name invariant-loop decreases-loop) → c.global_name_lem.result ≡ global_name (globals_of (bytes c.before.before)) c.before.before.loop.k
+named c = c.global_name_lem.ensures.is ∙ ap (λ (gs : List ℕ). global_name gs c.before.before.loop.k) c.before.before.before.before.globals.ensures
 
-low : (c : tie.After-global-name invariant-loop decreases-loop) → c.global-name.result < 1024
+low : (c : tie.After-global-name invariant-loop decreases-loop) → c.global_name_lem.result < 1024
 low c =
     let l = c.before.before in
-    rw (named c) (l.before.before.before.before.before.requires.1.global-name l.loop.k (omega (arith, l.before.global-count.ensures.is)))
+    rw (named c) (l.before.before.before.before.before.requires.1.global_name_lem l.loop.k (omega (arith, l.before.global-count.ensures.is)))
 
-few : (c : tie.After-global-name invariant-loop decreases-loop) → 2048 + c.global-name.result < length c.before.before.loop.t
+few : (c : tie.After-global-name invariant-loop decreases-loop) → 2048 + c.global_name_lem.result < length c.before.before.loop.t
 few c = let l = c.before.before in omega (arith, low c, l.loop.invariant.1.long, l.before.before.before.before.before.requires.0)
 
 -- ---- the needs
@@ -91,11 +91,11 @@ loop-again c =
     let here = c.before.before in
     let l = here.before.before.loop in
     let start = here.before.before.before.before.before.before.before in
-    let x = here.global-name.result in
-    let f = globalName (globals_of start.args.file.now) in
-    let e : up_to f (l.k + 1) ≡ up_to f l.k ++ (x ∷ []) = ap (up_to f) (add-one l.k) ∙ upTo-snoc f l.k ∙ ap (λ (y : ℕ). up_to f l.k ++ (y ∷ [])) (sym (named here)) in
-    let v : c.unless-noted.result ≡ unlessNoted (plus (place x (up_to f l.k))) (length (up_to f l.k) + 1) = (
-    c.unless-noted.ensures ∙ ap₂ unlessNoted (l.invariant.1.here x (low here)) (ap (λ (n : ℕ). n + 1) (sym (upTo-length f l.k)))
+    let x = here.global_name_lem.result in
+    let f = global_name (globals_of start.args.file.now) in
+    let e : up_to f (l.k + 1) ≡ up_to f l.k ++ (x ∷ []) = ap (up_to f) (add-one l.k) ∙ up_to_snoc f l.k ∙ ap (λ (y : ℕ). up_to f l.k ++ (y ∷ [])) (sym (named here)) in
+    let v : c.unless-noted.result ≡ unless_noted (plus (place x (up_to f l.k))) (length (up_to f l.k) + 1) = (
+    c.unless-noted.ensures ∙ ap₂ unless_noted (l.invariant.1.here x (low here)) (ap (λ (n : ℕ). n + 1) (sym (up_to_length f l.k)))
     ) in (
       omega arith,
       subst (λ (xs : List ℕ). NumbersNoted 2048 xs start.args.t.now (set l.t (2048 + x) c.unless-noted.result)) (sym e)
@@ -108,11 +108,11 @@ same_length c = c.before.loop.invariant.1.long
 returns : tie.Need-returns invariant-loop decreases-loop
 returns c =
     let l = c.before in
-    let e : l.loop.k ≡ globalCount (bytes l) = omega (arith, l.before.global-count.ensures.is) in
-    subst (λ (k : ℕ). NumbersNoted 2048 (globalsUpTo (bytes l) k) l.before.before.before.before.before.args.t.now l.loop.t) e l.loop.invariant.1
+    let e : l.loop.k ≡ global_count (bytes l) = omega (arith, l.before.global-count.ensures.is) in
+    subst (λ (k : ℕ). NumbersNoted 2048 (globals_up_to (bytes l) k) l.before.before.before.before.before.args.t.now l.loop.t) e l.loop.invariant.1
 
-pub note-globals-spec : {M : Type 1} → statement M
-note-globals-spec =
+pub note_globals_spec : {M : Type 1} → statement M
+note_globals_spec =
     tie.close
     (tie.spec
     invariant-loop

@@ -8,19 +8,19 @@ use native.Mathlib.Nat.{min-le_left}
 use lib.ListN.{length, length-take}
 use Rattle.bits.specs.FieldLaws.{field_past}
 use Rattle.lexical.specs.Records.{bit}
-use Rattle.nodefile.specs.Layout.{nameCount, names_of}
-use Rattle.nodefile.specs.Lists.{nameLen, hidden}
+use Rattle.nodefile.specs.Layout.{name_count, names_of}
+use Rattle.nodefile.specs.Lists.{name_len, hidden}
 use Rattle.nodefile.specs.FileOf.{name_rules}
 use Rattle.note.specs.Filled.{Filled}
-use Rattle.note.proofs.Filling.{filled_none, filled-push, filled-wide}
+use Rattle.note.proofs.Filling.{filled_none, filled_push, filled_wide}
 use Rattle.note.proofs.note_hidden.Statement.{statement}
 use Rattle.note.proofs.note_hidden.Tie as tie
 
-hidden-past : (bs : List ℕ) (i : ℕ) → nameCount bs ≤ i → bit ((name_rules bs).hidden i) ≡ 0
+hidden-past : (bs : List ℕ) (i : ℕ) → name_count bs ≤ i → bit ((name_rules bs).hidden i) ≡ 0
 unfolding bit
-hidden-past bs i h = let e : nameLen (names_of bs) i ≡ 0 = field_past (names_of bs) (24 * i + 16) 8 (omega (arith, short)) in rw e refl
+hidden-past bs i h = let e : name_len (names_of bs) i ≡ 0 = field_past (names_of bs) (24 * i + 16) 8 (omega (arith, short)) in rw e refl
   where
-    short : length (names_of bs) ≤ 3 * nameCount bs
+    short : length (names_of bs) ≤ 3 * name_count bs
     short = rw length-take (min-le_left _ _)
 
 abbrev invariant-loop : tie.invariant-loop
@@ -74,7 +74,7 @@ loop-again c =
     let nm = l.before.before.before.names in
     let pool = l.before.before.pool in (
       omega arith,
-      filled-push l.loop.invariant.1 _ (omega (arith, l.loop.invariant.1.long, few c.before.before))
+      filled_push l.loop.invariant.1 _ (omega (arith, l.loop.invariant.1.long, few c.before.before))
           (c.flag.ensures ∙ ap bit (c.before.hidden.ensures ∙ ap₂ (λ (a b : List ℕ). hidden a b l.loop.k) nm.ensures pool.ensures)),
     )
 
@@ -85,11 +85,11 @@ returns : tie.Need-returns invariant-loop decreases-loop
 returns c =
     let n = c.before.before.name-count.ensures.is in
     let start = c.before.before.before.before.before.before.before in
-    let e : c.before.loop.k ≡ nameCount start.args.file.now = omega arith in
-    filled-wide c.before.loop.invariant.1 1024 (omega (arith, start.requires.1.names)) (λ i h b. start.requires.2 i b ∙ sym (hidden-past _ i (omega arith)))
+    let e : c.before.loop.k ≡ name_count start.args.file.now = omega arith in
+    filled_wide c.before.loop.invariant.1 1024 (omega (arith, start.requires.1.names)) (λ i h b. start.requires.2 i b ∙ sym (hidden-past _ i (omega arith)))
 
-pub note-hidden-spec : {M : Type 1} → statement M
-note-hidden-spec =
+pub note_hidden_spec : {M : Type 1} → statement M
+note_hidden_spec =
     tie.close
     (tie.spec
     invariant-loop

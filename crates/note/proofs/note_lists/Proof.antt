@@ -8,13 +8,13 @@ use lib.ListN.{length, get_or, length-set}
 use Rattle.lexical.specs.Tree.{nil}
 use Rattle.lexical.specs.Records.{bit}
 use Rattle.store.specs.Laws.Points.{Off}
-use Rattle.note.proofs.Lists.{made-blank, clear-flag, clear-hidden, clear-globals, all_noted}
+use Rattle.note.proofs.Lists.{made_blank, clear_flag, clear_hidden, clear_globals, all_noted}
 use Rattle.note.proofs.note_lists.Statement.{statement}
 use Rattle.note.proofs.note_lists.Tie as tie
 
 -- what is still zero, and the length
 hidden-clear : (c : tie.After-note-hidden) (i : ℕ) → Off i 3072 1024 → (i ≡ 20863 → ⊥) → get_or c.note-hidden.new.1.0 i 0 ≡ 0
-hidden-clear c = let start = c.before.before.before.before.before.before.before in clear-hidden start.args.t.now c.before.before.flag.result start.requires.3 start.args.file.now c.note-hidden.ensures
+hidden-clear c = let start = c.before.before.before.before.before.before.before in clear_hidden start.args.t.now c.before.before.flag.result start.requires.3 start.args.file.now c.note-hidden.ensures
 
 hidden-long : (c : tie.After-note-hidden) → length c.note-hidden.new.1.0 ≡ 20864
 hidden-long c = c.note-hidden.ensures.long ∙ (rw length-set c.before.before.before.before.before.before.before.requires.1)
@@ -23,7 +23,7 @@ globals-clear : (c : tie.After-note-globals) (i : ℕ) → Off i 2048 2048 → (
 globals-clear c =
     let here = c.before.before.before.before in
     let start = here.before.before.before.before.before.before.before in
-    clear-globals start.args.t.now here.before.before.flag.result start.requires.3 start.args.file.now here.note-hidden.ensures c.note-globals.ensures
+    clear_globals start.args.t.now here.before.before.flag.result start.requires.3 start.args.file.now here.note-hidden.ensures c.note-globals.ensures
 
 globals-long : (c : tie.After-note-globals) → length c.note-globals.new.1.0 ≡ 20864
 globals-long c = c.note-globals.ensures.long ∙ hidden-long c.before.before.before.before
@@ -40,7 +40,7 @@ slice-write-t c = search rules
 note-hidden-requires : tie.Need-note-hidden-requires
 note-hidden-requires c κs =
     let start = c.before.before.before.before.before.before in
-    ((rw length-set start.requires.1), start.requires.4, λ i b. clear-flag start.args.t.now c.before.flag.result start.requires.3 (3072 + i) (omega arith))
+    ((rw length-set start.requires.1), start.requires.4, λ i b. clear_flag start.args.t.now c.before.flag.result start.requires.3 (3072 + i) (omega arith))
 
 note-globals-requires : tie.Need-note-globals-requires
 note-globals-requires c κs =
@@ -54,7 +54,7 @@ note-entries-requires c κs =
       start.requires.0,
       globals-long here,
       start.requires.4,
-      made-blank _ _ start.requires.2 (λ i b. globals-clear here (7424 + i) (λ j d. omega arith) (omega arith)),
+      made_blank _ _ start.requires.2 (λ i b. globals-clear here (7424 + i) (λ j d. omega arith) (omega arith)),
       λ i b. globals-clear here (1024 + i) (λ j d. omega arith) (omega arith),
     )
 
@@ -77,8 +77,8 @@ returns c =
     λ root. all_noted start.args.t.now flag.flag.result start.requires.3 start.args.file.now hidden.note-hidden.ensures globals.note-globals.ensures root
     last.note-entries.ensures.0 (flag.flag.ensures ∙ ap (λ (x : ℕ). bit (eqb x 1)) flag.before.reexport.ensures.is) (omega (arith, start.requires.1)) (last.note-entries.ensures.1 root)
 
-pub note-lists-spec : {M : Type 1} → statement M
-note-lists-spec =
+pub note_lists_spec : {M : Type 1} → statement M
+note_lists_spec =
     tie.close
     (tie.spec
     reexport-requires

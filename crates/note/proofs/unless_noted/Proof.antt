@@ -9,5 +9,5 @@ returns c = simp (eq-eqb _ _ c.if1.true)
 returns-2 : tie.Need-returns-2
 returns-2 c = simp (ne_eqb _ _ c.if1.false)
 
-pub unless-noted-spec : {M : Type 1} → statement M
-unless-noted-spec = tie.close (tie.spec returns returns-2)
+pub unless_noted_spec : {M : Type 1} → statement M
+unless_noted_spec = tie.close (tie.spec returns returns-2)

@@ -7,18 +7,18 @@ use Rattle.std.proofs.Common.{sym, ap, ◌∙◌, arith, take_at}
 use Rattle.std.proofs.lemmas.Simd.{map-map}
 use Rattle.std.proofs.lemmas.List.{reverse-reverse, length-map}
 use Rattle.std.proofs.Math.Option.{Option, none, some}
-use Rattle.lexical.specs.Lists.{first, count, mapO-cond}
+use Rattle.lexical.specs.Lists.{first, count, map_o_cond}
 use Rattle.lexical.specs.Places.{All}
 use Rattle.lexical.specs.State.{Copy}
-use Rattle.lexical.specs.Follow.{copyTo, fromIn, followBy, follow}
-use Rattle.lexical.specs.Schemes.{copiesInto}
-use Rattle.lexical.specs.Records.{copyRow}
-use Rattle.target.specs.Alike.{map-like}
+use Rattle.lexical.specs.Follow.{copy_to, from_in, follow_by, follow}
+use Rattle.lexical.specs.Schemes.{copies_into}
+use Rattle.lexical.specs.Records.{copy_row}
+use Rattle.target.specs.Alike.{map_like}
 use Rattle.follow.specs.Place as place
-use Rattle.follow.specs.Place.{copiesOf, followed, place_of}
+use Rattle.follow.specs.Place.{copies_of, followed, place_of}
 use Rattle.answer.specs.Buffers.{Front}
 use Rattle.answer.specs.Fields.{part}
-use Rattle.answer.specs.Records.{copyWidths, copy_of, copyScope, copyParent, copyChild}
+use Rattle.answer.specs.Records.{copy_widths, copy_of, copy_scope, copy_parent, copy_child}
 use Rattle.answer.specs.Laws.{part-packed}
 
 -- a copy without its binding, which its record does not tell
@@ -28,46 +28,46 @@ bare c = record { scope = c.scope; parent = c.parent; child = c.child; id = 0 }
 abbrev pub CopyFits : Copy → Type 0
 CopyFits c = (c.scope < 256) × (c.parent < 4096) × (c.child < 4096)
 
-copy_read : (c : Copy) → CopyFits c → place.copy_of (copy_of (copyRow c)) ≡ bare c
+copy_read : (c : Copy) → CopyFits c → place.copy_of (copy_of (copy_row c)) ≡ bare c
 copy_read c h =
-    let x : copyScope (copy_of (copyRow c)) ≡ c.scope = read 0 (omega arith) in
-    let y : copyParent (copy_of (copyRow c)) ≡ c.parent = read 1 (omega arith) in
-    let z : copyChild (copy_of (copyRow c)) ≡ c.child = read 2 (omega arith) in
+    let x : copy_scope (copy_of (copy_row c)) ≡ c.scope = read 0 (omega arith) in
+    let y : copy_parent (copy_of (copy_row c)) ≡ c.parent = read 1 (omega arith) in
+    let z : copy_child (copy_of (copy_row c)) ≡ c.child = read 2 (omega arith) in
     rw (x, y, z)
   where
-    read : (k : ℕ) → k < 3 → part copyWidths k (copy_of (copyRow c)) ≡ get_or (copyRow c) k 0
-    read = part-packed copyWidths (copyRow c) (h.0, (h.1, (h.2, tt)))
+    read : (k : ℕ) → k < 3 → part copy_widths k (copy_of (copy_row c)) ≡ get_or (copy_row c) k 0
+    read = part-packed copy_widths (copy_row c) (h.0, (h.1, (h.2, tt)))
 
-from-bare : (s k : ℕ) (cs : List Copy) → fromIn s k (map bare cs) ≡ fromIn s k cs
-unfolding fromIn first copyTo
+from-bare : (s k : ℕ) (cs : List Copy) → from_in s k (map bare cs) ≡ from_in s k cs
+unfolding from_in first copy_to
 from-bare s k [] = refl
-from-bare s k (c ∷ cs) = mapO-cond _ (copyTo s k c) (bare c) _ ∙ ap (cond (copyTo s k c) (some c.parent)) (from-bare s k cs) ∙ sym (mapO-cond _ (copyTo s k c) c _)
+from-bare s k (c ∷ cs) = map_o_cond _ (copy_to s k c) (bare c) _ ∙ ap (cond (copy_to s k c) (some c.parent)) (from-bare s k cs) ∙ sym (map_o_cond _ (copy_to s k c) c _)
 
 follow-bare : (cs : List Copy) (ss : List ℕ) (k : ℕ) → follow (map bare cs) ss k ≡ follow cs ss k
-unfolding follow followBy
+unfolding follow follow_by
 follow-bare cs [] k = refl
-follow-bare cs (s ∷ ss) k = rw (from-bare s k cs) (go (fromIn s k cs) (λ p. follow-bare cs ss p))
+follow-bare cs (s ∷ ss) k = rw (from-bare s k cs) (go (from_in s k cs) (λ p. follow-bare cs ss p))
   where
-    go : (o : Option ℕ) → ((p : ℕ) → follow (map bare cs) ss p ≡ follow cs ss p) → followBy o (s, k) (λ p. follow (map bare cs) ss p) ≡ followBy o (s, k) (λ p. follow cs ss p)
+    go : (o : Option ℕ) → ((p : ℕ) → follow (map bare cs) ss p ≡ follow cs ss p) → follow_by o (s, k) (λ p. follow (map bare cs) ss p) ≡ follow_by o (s, k) (λ p. follow cs ss p)
     go none r = refl
     go (some p) r = r p
 
-into-bare : (t : ℕ) (cs : List Copy) → count (λ (c : Copy). eqb c.scope t) (map bare cs) ≡ count (λ (c : Copy). eqb c.scope t) cs
+into_bare : (t : ℕ) (cs : List Copy) → count (λ (c : Copy). eqb c.scope t) (map bare cs) ≡ count (λ (c : Copy). eqb c.scope t) cs
 unfolding count
-into-bare t [] = refl
-into-bare t (c ∷ cs) = ap (λ (n : ℕ). cond (eqb c.scope t) (suc n) n) (into-bare t cs)
+into_bare t [] = refl
+into_bare t (c ∷ cs) = ap (λ (n : ℕ). cond (eqb c.scope t) (suc n) n) (into_bare t cs)
 
-module _ (cs : List Copy) (fits : All CopyFits cs) (l : List ℕ) (n : ℕ) (f : Front l n (map copy_of (map copyRow cs))) where
-  pub copies-read : copiesOf (take (length cs) l) ≡ map bare cs
-  copies-read =
+module _ (cs : List Copy) (fits : All CopyFits cs) (l : List ℕ) (n : ℕ) (f : Front l n (map copy_of (map copy_row cs))) where
+  pub copies_read : copies_of (take (length cs) l) ≡ map bare cs
+  copies_read =
       ap (λ (x : List ℕ). map place.copy_of (take (length cs) x)) f
-      ∙ ap (map place.copy_of) (take_at (map copy_of (map copyRow cs)) _ (length cs) (length-map (map copyRow cs) copy_of ∙ length-map cs copyRow))
-      ∙ map-map place.copy_of copy_of (map copyRow cs) ∙ map-map (λ (r : List ℕ). place.copy_of (copy_of r)) copyRow cs
-      ∙ map-like _ bare cs (λ j c e. copy_read c (fits j c e))
+      ∙ ap (map place.copy_of) (take_at (map copy_of (map copy_row cs)) _ (length cs) (length-map (map copy_row cs) copy_of ∙ length-map cs copy_row))
+      ∙ map-map place.copy_of copy_of (map copy_row cs) ∙ map-map (λ (r : List ℕ). place.copy_of (copy_of r)) copy_row cs
+      ∙ map_like _ bare cs (λ j c e. copy_read c (fits j c e))
 
   -- through some scopes, innermost first
-  pub follow-read : (ss : List ℕ) (k : ℕ) → followed (take (length cs) l) (reverse ss) k ≡ place_of (follow cs ss k)
-  follow-read ss k = ap place_of (ap (λ (x : List Copy). follow x (reverse (reverse ss)) k) copies-read ∙ ap (λ (x : List ℕ). follow (map bare cs) x k) (reverse-reverse ss) ∙ follow-bare cs ss k)
+  pub follow_read : (ss : List ℕ) (k : ℕ) → followed (take (length cs) l) (reverse ss) k ≡ place_of (follow cs ss k)
+  follow_read ss k = ap place_of (ap (λ (x : List Copy). follow x (reverse (reverse ss)) k) copies_read ∙ ap (λ (x : List ℕ). follow (map bare cs) x k) (reverse-reverse ss) ∙ follow-bare cs ss k)
 
-  pub into-read : (t : ℕ) → copiesInto t (copiesOf (take (length cs) l)) ≡ copiesInto t cs
-  into-read t = ap (copiesInto t) copies-read ∙ into-bare t cs
+  pub into_read : (t : ℕ) → copies_into t (copies_of (take (length cs) l)) ≡ copies_into t cs
+  into_read t = ap (copies_into t) copies_read ∙ into_bare t cs

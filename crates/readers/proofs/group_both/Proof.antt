@@ -31,10 +31,10 @@ same-length-6 : tie.Need-same-length-6
 same-length-6 c = search rules
 
 returns : tie.Need-returns
-returns c = record { of-bindings = c.before.before.before.before.before.before.before.before.before.before.before.before.before.before.before.before.before.group-nodes.ensures; of-globals = rw (← c.before.before.before.before.before.before.before.before.before.before.global-count.ensures.is) c.before.before.before.before.before.before.group-nodes2.ensures }
+returns c = record { of_bindings = c.before.before.before.before.before.before.before.before.before.before.before.before.before.before.before.before.before.group-nodes.ensures; of_globals = rw (← c.before.before.before.before.before.before.before.before.before.before.global-count.ensures.is) c.before.before.before.before.before.before.group-nodes2.ensures }
 
-pub group-both-spec : {M : Type 1} → statement M
-group-both-spec =
+pub group_both_spec : {M : Type 1} → statement M
+group_both_spec =
     tie.close
     (tie.spec
     group-nodes-requires

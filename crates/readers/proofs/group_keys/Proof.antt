@@ -24,8 +24,8 @@ same-length-4 c = search rules
 returns : tie.Need-returns
 returns c = rw (← c.before.before.before.before.before.before.before.before.before.before.before.before.before.put-keys.ensures) c.before.before.before.before.before.before.group.ensures
 
-pub group-keys-spec : {M : Type 1} → statement M
-group-keys-spec =
+pub group_keys_spec : {M : Type 1} → statement M
+group_keys_spec =
     tie.close
     (tie.spec
     put-keys-requires

@@ -40,8 +40,8 @@ returns c =
     let n = c.before.before.before.before.before.before.before.before.before.before.before.before.before.node-count in
     rw (← whole a.globals a.file.now a.nodes.now (replicate 2048 0) c.before.before.before.before.before.before.before.before.before.before.before.before.nodes.ensures n.ensures.is (omega (arith, n.ensures.is, c.before.before.before.before.before.before.before.before.before.before.before.before.before.before.before.before.before.before.before.requires.few, length-replicate {A = ℕ} 2048 0))) c.before.before.before.before.before.before.before.group-keys.ensures
 
-pub group-nodes-spec : {M : Type 1} → statement M
-group-nodes-spec =
+pub group_nodes_spec : {M : Type 1} → statement M
+group_nodes_spec =
     tie.close
     (tie.spec
     node-count-requires

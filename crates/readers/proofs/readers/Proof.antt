@@ -1,7 +1,7 @@
 -- `readers::readers` meets its contract, of any file and any buffers. Assumes nothing.
 use mathlib.Core.Path.{◌∙◌}
 use Rattle.base.specs.Says.{says-true, says-false}
-use Rattle.readers.proofs.Outcome.{refused-so, too_short, records-kept, all_listed}
+use Rattle.readers.proofs.Outcome.{refused_so, too_short, records_kept, all_listed}
 use Rattle.readers.proofs.readers.Statement.{statement}
 use Rattle.readers.proofs.readers.Tie as tie
 
@@ -54,7 +54,7 @@ same-length-13 : tie.Need-same-length-13
 same-length-13 c = c.before.before.before.before.before.before.before.before.before.before.before.before.before.before.before.before.before.before.before.before.before.before.before.before.before.before.before.before.before.before.before.before.before.before.before.before.clear-lists.auto.1.1.1.1.1.0
 
 returns : tie.Need-returns
-returns c = refused-so c.before.before.before.before.before.before.before.before.before.before.before.before.before.before.before.before.resolve.ensures c.if1.true c.before.before.before.before.before.before.before.before.before.before.before.before.before.before.before.before.before.before.before.before.before.before.before.before.before.before.before.before.before.before.before.before.before.before.before.before.clear-lists.ensures
+returns c = refused_so c.before.before.before.before.before.before.before.before.before.before.before.before.before.before.before.before.resolve.ensures c.if1.true c.before.before.before.before.before.before.before.before.before.before.before.before.before.before.before.before.before.before.before.before.before.before.before.before.before.before.before.before.before.before.before.before.before.before.before.before.clear-lists.ensures
 
 clear-answer-requires : tie.Need-clear-answer-requires
 clear-answer-requires c κs = tt
@@ -105,7 +105,7 @@ returns-2 : tie.Need-returns-2
 returns-2 c = too_short c.before.before.before.before.before.before.before.before.before.before.before.before.before.before.before.before.before.before.before.before.before.before.before.before.before.before.before.before.before.before.before.before.before.before.before.before.before.before.before.before.resolve.ensures c.before.before.before.before.before.before.before.before.before.before.before.before.before.before.before.before.before.before.before.before.before.before.before.before.if1.false (says-true c.before.before.before.before.before.before.before.before.before.before.before.before.before.before.before.before.before.before.before.before.before.before.before.if2.true c.before.before.before.before.before.before.before.before.before.before.before.before.before.before.before.before.before.before.before.before.before.before.before.before.before.before.before.before.before.before.before.before.before.before.before.before.before.before.before.before.before.before.before.before.before.before.before.before.before.before.before.before.before.before.before.before.before.before.before.before.before.before.before.before.before.before.before.short.ensures) c.before.before.before.before.before.before.before.before.before.before.before.before.before.before.before.before.before.before.before.before.before.before.before.before.before.before.before.before.before.before.before.before.before.before.before.before.before.before.before.before.before.before.before.before.before.before.before.before.before.before.before.before.before.before.before.before.before.before.before.before.clear-lists.ensures (record { nodes = c.before.before.before.before.before.before.before.before.before.before.before.before.before.before.before.before.before.before.before.before.before.before.before.before.before.before.before.before.before.before.before.before.before.before.before.before.before.before.before.before.resolve.auto.1.0; bindings = c.before.before.before.before.before.before.before.before.before.before.before.before.before.before.before.before.before.before.before.before.before.before.before.before.before.before.before.before.before.before.before.before.before.before.before.before.before.before.before.before.resolve.auto.1.1.0; entries = c.before.before.before.before.before.before.before.before.before.before.before.before.before.before.before.before.before.before.before.before.before.before.before.before.before.before.before.before.before.before.before.before.before.before.before.before.before.before.before.before.resolve.auto.1.1.1.0; scopes = c.before.before.before.before.before.before.before.before.before.before.before.before.before.before.before.before.before.before.before.before.before.before.before.before.before.before.before.before.before.before.before.before.before.before.before.before.before.before.before.before.resolve.auto.1.1.1.1.0; slots = c.before.before.before.before.before.before.before.before.before.before.before.before.before.before.before.before.before.before.before.before.before.before.before.before.before.before.before.before.before.before.before.before.before.before.before.before.before.before.before.before.resolve.auto.1.1.1.1.1.0; copies = c.before.before.before.before.before.before.before.before.before.before.before.before.before.before.before.before.before.before.before.before.before.before.before.before.before.before.before.before.before.before.before.before.before.before.before.before.before.before.before.before.resolve.auto.1.1.1.1.1.1.0; errors = c.before.before.before.before.before.before.before.before.before.before.before.before.before.before.before.before.before.before.before.before.before.before.before.before.before.before.before.before.before.before.before.before.before.before.before.before.before.before.before.before.resolve.auto.1.1.1.1.1.1.1.0 }) c.before.before.before.before.before.before.before.before.before.before.before.before.before.before.before.clear-answer.ensures c.refused.ensures
 
 group-both-requires : tie.Need-group-both-requires
-group-both-requires c κs = records-kept c.before.before.before.before.before.before.before.before.before.before.before.before.before.before.before.before.before.before.before.before.before.before.before.before.resolve.ensures c.before.before.before.before.before.before.before.before.if1.false c.before.before.before.before.before.before.before.before.before.before.before.before.before.before.before.before.before.before.before.before.before.before.before.before.resolve.auto.1.0
+group-both-requires c κs = records_kept c.before.before.before.before.before.before.before.before.before.before.before.before.before.before.before.before.before.before.before.before.before.before.before.before.resolve.ensures c.before.before.before.before.before.before.before.before.if1.false c.before.before.before.before.before.before.before.before.before.before.before.before.before.before.before.before.before.before.before.before.before.before.before.before.resolve.auto.1.0
 
 same-length-27 : tie.Need-same-length-27
 same-length-27 c = c.before.before.before.before.before.before.before.before.before.before.before.before.before.before.before.before.before.before.before.before.before.before.before.before.before.before.before.before.before.before.before.before.before.before.before.before.before.resolve.auto.1.0
@@ -149,8 +149,8 @@ same-length-39 c = c.before.before.before.before.before.before.before.before.bef
 returns-3 : tie.Need-returns-3
 returns-3 c = all_listed c.before.before.before.before.before.before.before.before.before.before.before.before.before.before.before.before.before.before.before.before.before.before.before.before.before.before.before.before.before.before.before.before.before.before.before.before.before.resolve.ensures c.before.before.before.before.before.before.before.before.before.before.before.before.before.before.before.before.before.before.before.before.before.if1.false (says-false c.before.before.before.before.before.before.before.before.before.before.before.before.before.before.before.before.before.before.before.before.if2.false c.before.before.before.before.before.before.before.before.before.before.before.before.before.before.before.before.before.before.before.before.before.before.before.before.before.before.before.before.before.before.before.before.before.before.before.before.before.before.before.before.before.before.before.before.before.before.before.before.before.before.before.before.before.before.before.before.before.before.before.before.before.before.before.before.short.ensures) c.before.before.before.before.before.before.before.before.before.before.before.before.before.before.before.before.before.before.before.before.before.before.before.before.before.before.before.before.before.before.before.before.before.before.before.before.before.before.before.before.before.before.before.before.before.before.before.before.before.before.before.before.before.before.before.before.before.clear-lists.ensures c.before.before.before.before.before.before.before.before.before.before.before.before.group-both.ensures
 
-pub readers-spec : {M : Type 1} → statement M
-readers-spec =
+pub readers_spec : {M : Type 1} → statement M
+readers_spec =
     tie.close
     (tie.spec
     short-requires

@@ -5,9 +5,9 @@ use Rattle.std.specs.Prelude.{ℕ, ◌<◌, ◌≡◌, refl, ◌⊎◌, true, fa
 use Rattle.std.proofs.Common.{sym, ap, ◌∙◌, inl, inr, arith, eqb-true, eq-eqb}
 use Rattle.std.proofs.Math.Decide.{ℕ_discrete}
 use Rattle.answer.specs.Buffers.{Buffers}
-use Rattle.answer.specs.Laws.{part-lt}
-use Rattle.answer.specs.Records.{nodeWidths}
-use Rattle.readers.specs.Keys.{ofBinding, ofGlobal}
+use Rattle.answer.specs.Laws.{part_lt}
+use Rattle.answer.specs.Records.{node_widths}
+use Rattle.readers.specs.Keys.{of_binding, of_global}
 use Rattle.readers.specs.Shown.{class_of}
 
 -- a test that fails does not pass
@@ -15,14 +15,14 @@ pub other : {P : Type 0} → false ≡ true → P
 other e = absurd (let z : ◌≡◌ {A = ℕ} 0 1 = cc in omega arith)
 
 -- no record has two classes
-pub apart : (c : ℕ) {P : Type 0} → ofBinding c ≡ true → ofGlobal c ≡ true → P
-apart c e q = let h : c ≡ 3 = eqb-true _ _ q in other (ap ofBinding (sym h) ∙ e)
+pub apart : (c : ℕ) {P : Type 0} → of_binding c ≡ true → of_global c ≡ true → P
+apart c e q = let h : c ≡ 3 = eqb-true _ _ q in other (ap of_binding (sym h) ∙ e)
 
 -- a class is a binding's or a global's, or 0
-pub classed : (b : Buffers) (x : ℕ) → (class_of b x ≡ 0 → ⊥) → (ofBinding (class_of b x) ≡ true) ⊎ (ofGlobal (class_of b x) ≡ true)
-classed b x n = go (class_of b x) n (part-lt nodeWidths 0 (get_or b.nodes x 0))
+pub classed : (b : Buffers) (x : ℕ) → (class_of b x ≡ 0 → ⊥) → (of_binding (class_of b x) ≡ true) ⊎ (of_global (class_of b x) ≡ true)
+classed b x n = go (class_of b x) n (part_lt node_widths 0 (get_or b.nodes x 0))
   where
-    go : (c : ℕ) → (c ≡ 0 → ⊥) → c < 4 → (ofBinding c ≡ true) ⊎ (ofGlobal c ≡ true)
+    go : (c : ℕ) → (c ≡ 0 → ⊥) → c < 4 → (of_binding c ≡ true) ⊎ (of_global c ≡ true)
     go c n h = elim (ℕ_discrete c 3) [
       | yes e ↦ inr (eq-eqb _ _ e)
       | no d ↦ elim (ℕ_discrete c 1) [ yes e ↦ inl (rw e refl) | no f ↦ let e : c ≡ 2 = omega arith in inl (rw e refl) ]

@@ -5,7 +5,7 @@
 use Rattle.std.specs.Prelude.{ℕ, zero, suc, ◌+◌, ◌<◌, ◌≡◌, refl, Bool, true, false, cond, ◌∷◌, [], length}
 use Rattle.std.proofs.Common.{ap, arith, length-append}
 use Rattle.base.specs.UpTo.{tally}
-use Rattle.group.specs.Passing.{passing, passing-yes, passing-no}
+use Rattle.group.specs.Passing.{passing, passing-yes, passing_no}
 
 -- 1 where a test passes
 abbrev pub one : Bool → ℕ
@@ -26,12 +26,12 @@ passing-tally p (suc n) = go (p n) refl (passing-tally p n)
   where
     go : (b : Bool) → p n ≡ b → length (passing p n) ≡ tally p n → length (passing p (suc n)) ≡ tally p (suc n)
     go true e h = omega (arith, ap length (passing-yes p n e), length-append (passing p n) (n ∷ []), tally-suc p n, ap one e)
-    go false e h = omega (arith, ap length (passing-no p n e), tally-suc p n, ap one e)
+    go false e h = omega (arith, ap length (passing_no p n e), tally-suc p n, ap one e)
 
-pub tally-like : (p q : ℕ → Bool) (n : ℕ) → ((i : ℕ) → i < n → p i ≡ q i) → tally p n ≡ tally q n
+pub tally_like : (p q : ℕ → Bool) (n : ℕ) → ((i : ℕ) → i < n → p i ≡ q i) → tally p n ≡ tally q n
 unfolding tally
-tally-like p q zero h = refl
-tally-like p q (suc n) h = omega (arith, tally-suc p n, tally-suc q n, ap one (h n (omega arith)), tally-like p q n (λ i l. h i (omega arith)))
+tally_like p q zero h = refl
+tally_like p q (suc n) h = omega (arith, tally-suc p n, tally-suc q n, ap one (h n (omega arith)), tally_like p q n (λ i l. h i (omega arith)))
 
 pub tally-both : (p q r : ℕ → Bool) (n : ℕ) → ((i : ℕ) → i < n → one (p i) + one (q i) ≡ one (r i)) → tally p n + tally q n ≡ tally r n
 unfolding tally

@@ -6,7 +6,7 @@ use Rattle.std.specs.Prelude.{ℕ, ◌+◌, ◌-◌, ◌≤◌, ◌<◌, ◌≡�
 use Rattle.std.proofs.Common.{sym, ap, ◌∙◌, arith}
 use Rattle.group.specs.Passing.{Stands}
 use Rattle.group.specs.Sums.{sum_room, joined_length, joined_at}
-use Rattle.group.specs.Grouped.{places_of, count_of, start_of, flatOf, Grouped}
+use Rattle.group.specs.Grouped.{places_of, count_of, start_of, flat_of, Grouped}
 use Rattle.group.specs.Theorems as group
 use Rattle.readers.specs.Shown.{InList}
 
@@ -15,7 +15,7 @@ module _ {keys : List ℕ} {buckets l m n : ℕ} {starts counts list : List ℕ}
   pub record At (k p x : ℕ) : Type 0 where
     pub from : start_of keys k ≤ p
     pub below : p < start_of keys k + count_of keys k
-    pub flat : Stands (flatOf keys buckets) p x
+    pub flat : Stands (flat_of keys buckets) p x
 
   at : (k x : ℕ) → k < buckets → (s : InList starts counts list k x) → At k s.place x
   at k x h s = record {
@@ -30,10 +30,10 @@ module _ {keys : List ℕ} {buckets l m n : ℕ} {starts counts list : List ℕ}
       let p = s.place in
       let e : start_of keys k + (p - start_of keys k) ≡ p = omega (arith, w.from) in
       let j : p - start_of keys k < count_of keys k = omega (arith, w.from, w.below) in
-      group.from_list keys k (p - start_of keys k) x (j, sym (joined_at (places_of keys) buckets k (p - start_of keys k) h j) ∙ ap (λ (i : ℕ). get_or (flatOf keys buckets) i 0) e ∙ w.flat.1)
+      group.from_list keys k (p - start_of keys k) x (j, sym (joined_at (places_of keys) buckets k (p - start_of keys k) h j) ∙ ap (λ (i : ℕ). get_or (flat_of keys buckets) i 0) e ∙ w.flat.1)
 
-  pub listed-to : (k x : ℕ) → k < buckets → x < length keys → get_or keys x 0 ≡ k + 1 → InList starts counts list k x
-  listed-to k x h i e =
+  pub listed_to : (k x : ℕ) → k < buckets → x < length keys → get_or keys x 0 ≡ k + 1 → InList starts counts list k x
+  listed_to k x h i e =
       let w = group.stands keys buckets x k i e h in
       record {
         place = w.0;
@@ -42,8 +42,8 @@ module _ {keys : List ℕ} {buckets l m n : ℕ} {starts counts list : List ℕ}
         is = group.place_at g w.0 ∙ w.3.1;
       }
 
-  pub listed-once : (j k x : ℕ) → j < buckets → k < buckets → (s : InList starts counts list j x) (t : InList starts counts list k x) → (j ≡ k) × (s.place ≡ t.place)
-  listed-once j k x h i s t = (omega (arith, (listed-from j x h s).1, (listed-from k x i t).1), group.once keys buckets s.place t.place x (at j x h s).flat (at k x i t).flat)
+  pub listed_once : (j k x : ℕ) → j < buckets → k < buckets → (s : InList starts counts list j x) (t : InList starts counts list k x) → (j ≡ k) × (s.place ≡ t.place)
+  listed_once j k x h i s t = (omega (arith, (listed-from j x h s).1, (listed-from k x i t).1), group.once keys buckets s.place t.place x (at j x h s).flat (at k x i t).flat)
 
   pub listed-rising : (k x y : ℕ) → k < buckets → (s : InList starts counts list k x) (t : InList starts counts list k y) → s.place < t.place → x < y
   listed-rising k x y h s t i = group.rising keys buckets k s.place t.place x y h (at k x h s).from i (at k y h t).below (at k x h s).flat (at k y h t).flat

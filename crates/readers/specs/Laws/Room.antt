@@ -5,28 +5,28 @@ use Rattle.std.proofs.Math.ListN.{length-map}
 use Rattle.lexical.specs.Tree.{Forest}
 use Rattle.lexical.specs.Third.{resolved}
 use Rattle.lexical.specs.Records as rec
-use Rattle.nodefile.specs.Layout.{nodeCount, globalCount, nodesOf}
+use Rattle.nodefile.specs.Layout.{node_count, global_count, nodes_of}
 use Rattle.nodefile.specs.Reads.{Reads}
-use Rattle.nodefile.specs.FileOf.{fileOf}
+use Rattle.nodefile.specs.FileOf.{file_of}
 use Rattle.answer.specs.declared.Answer.{Answer}
 use Rattle.answer.specs.Buffers.{Buffers}
 use Rattle.scope.specs.Answer.{Resolves}
-use Rattle.scope.specs.Laws.Accepts.{judged-tree}
+use Rattle.scope.specs.Laws.Accepts.{judged_tree}
 use Rattle.scope.specs.Laws.Readies.{ready_made}
-use Rattle.scope.specs.Laws.Zero.{zero-accepted, zero-ready}
+use Rattle.scope.specs.Laws.Zero.{zero_accepted, zero_ready}
 
 module _ {bs : List ℕ} {b b' : Buffers} {a : Answer} (r : Resolves bs b a b') (z : a.number ≡ 0) where
-  tree : (root : Forest) × Reads (nodesOf bs) 0 root
-  tree = judged-tree (zero-accepted r z)
+  tree : (root : Forest) × Reads (nodes_of bs) 0 root
+  tree = judged_tree (zero_accepted r z)
 
-  pub few-nodes : nodeCount bs ≤ 2048
-  few-nodes = (zero-ready r z tree.0 tree.1).nodes
+  pub few_nodes : node_count bs ≤ 2048
+  few_nodes = (zero_ready r z tree.0 tree.1).nodes
 
-  pub few-globals : globalCount bs ≤ 256
-  few-globals = (zero-ready r z tree.0 tree.1).lists.globals
+  pub few_globals : global_count bs ≤ 256
+  few_globals = (zero_ready r z tree.0 tree.1).lists.globals
 
-  pub few-bindings : a.bindings ≤ 2304
+  pub few_bindings : a.bindings ≤ 2304
   unfolding rec.records
-  few-bindings =
-      let F = fileOf bs tree.0 in
-      omega (arith, (r.given z tree.0 tree.1).bindings, length-map (resolved F).made (rec.bindingRow (resolved F).log), ready_made (zero-ready r z tree.0 tree.1))
+  few_bindings =
+      let F = file_of bs tree.0 in
+      omega (arith, (r.given z tree.0 tree.1).bindings, length-map (resolved F).made (rec.binding_row (resolved F).log), ready_made (zero_ready r z tree.0 tree.1))

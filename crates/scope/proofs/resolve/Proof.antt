@@ -4,7 +4,7 @@
 use mathlib.Core.Path.{subst}
 use Rattle.base.specs.Says.{says-true, says-false}
 use Rattle.judge.specs.Cond.{Judged}
-use Rattle.scope.proofs.Numbers.{too_short, judged, pre-accepted, resolves}
+use Rattle.scope.proofs.Numbers.{too_short, judged, pre_accepted, resolves}
 -- END
 use borrow.Author.Rules.{rules}
 use Rattle.scope.proofs.resolve.Statement.{statement}
@@ -96,7 +96,7 @@ returns-2 c = judged c.before.before.before.before.before.before.before.before.b
 
 -- src/lib.rt:221:5
 resolve-accepted-requires : tie.Need-resolve-accepted-requires
-resolve-accepted-requires c κs = pre-accepted c.before.before.before.before.before.before.before.before.before.before.before.before.before.before.before.before.before.before.before.before.before.before.before.before.clear.ensures (says-false c.before.before.before.before.before.before.before.before.before.if1.false c.before.before.before.before.before.before.before.before.before.before.before.before.before.before.before.before.before.before.before.before.before.before.before.before.before.before.before.before.before.before.before.before.short.ensures) (subst (Judged _) c.before.before.before.before.before.before.before.if2.false c.before.before.before.before.before.before.before.before.judge.ensures)
+resolve-accepted-requires c κs = pre_accepted c.before.before.before.before.before.before.before.before.before.before.before.before.before.before.before.before.before.before.before.before.before.before.before.before.clear.ensures (says-false c.before.before.before.before.before.before.before.before.before.if1.false c.before.before.before.before.before.before.before.before.before.before.before.before.before.before.before.before.before.before.before.before.before.before.before.before.before.before.before.before.before.before.before.before.short.ensures) (subst (Judged _) c.before.before.before.before.before.before.before.if2.false c.before.before.before.before.before.before.before.before.judge.ensures)
 
 -- src/lib.rt:192:1
 same-length-15 : tie.Need-same-length-15
@@ -130,8 +130,8 @@ same-length-21 c = search rules
 returns-3 : tie.Need-returns-3
 returns-3 c = resolves c.before.before.before.before.before.before.before.before.before.before.before.before.before.before.before.before.before.before.before.before.before.before.before.before.before.before.before.before.before.before.before.before.before.before.before.before.before.before.before.clear.ensures (says-false c.before.before.before.before.before.before.before.before.before.before.before.before.before.before.before.before.before.before.before.before.before.before.before.before.if1.false c.before.before.before.before.before.before.before.before.before.before.before.before.before.before.before.before.before.before.before.before.before.before.before.before.before.before.before.before.before.before.before.before.before.before.before.before.before.before.before.before.before.before.before.before.before.before.before.short.ensures) (subst (Judged _) c.before.before.before.before.before.before.before.before.before.before.before.before.before.before.before.before.before.before.before.before.before.before.if2.false c.before.before.before.before.before.before.before.before.before.before.before.before.before.before.before.before.before.before.before.before.before.before.before.judge.ensures) c.before.before.before.before.before.before.before.before.before.before.before.before.before.before.resolve-accepted.ensures
 
-pub resolve-spec : {M : Type 1} → statement M
-resolve-spec =
+pub resolve_spec : {M : Type 1} → statement M
+resolve_spec =
     tie.close
     (tie.spec
     short-requires

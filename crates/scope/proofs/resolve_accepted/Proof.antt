@@ -4,7 +4,7 @@
 use Prim.Native.Nat.{ℕ}
 use mathlib.Core.Path.{◌∙◌}
 use lib.ListN.{length-replicate}
-use Rattle.scope.proofs.Outcome.{pre-walk, too_many, pre-copy, pre-entries, all-given}
+use Rattle.scope.proofs.Outcome.{pre_walk, too_many, pre_copy, pre_entries, all_given}
 -- END
 use borrow.Author.Rules.{rules}
 use Rattle.scope.proofs.resolve_accepted.Statement.{statement}
@@ -28,7 +28,7 @@ slice-aggregate-walk c = search rules
 
 -- src/lib.rt:144:9
 walk-requires : tie.Need-walk-requires
-walk-requires c κs = pre-walk (c.before.before.before.before.before.before.before.before.before.before.requires)
+walk-requires c κs = pre_walk (c.before.before.before.before.before.before.before.before.before.before.requires)
 
 -- src/lib.rt:148:9
 clear64-requires : tie.Need-clear64-requires
@@ -56,11 +56,11 @@ slice-aggregate-copy-out c = search rules
 
 -- src/lib.rt:152:5
 copy-out-requires : tie.Need-copy-out-requires
-copy-out-requires c κs = pre-copy (c.before.before.before.before.before.before.before.before.before.before.before.before.before.before.before.before.before.before.before.before.before.before.before.requires) c.before.before.before.before.before.before.before.before.before.before.before.before.walk.ensures c.before.before.before.before.before.before.before.before.before.before.before.before.walk.auto.1.0 c.before.before.before.before.before.before.before.if1.false c.before.before.before.before.before.before.node-count.ensures.is (c.before.before.before.before.before.before.before.before.before.before.before.before.walk.auto.1.1.0 ∙ length-replicate {A = ℕ} 12544 0)
+copy-out-requires c κs = pre_copy (c.before.before.before.before.before.before.before.before.before.before.before.before.before.before.before.before.before.before.before.before.before.before.before.requires) c.before.before.before.before.before.before.before.before.before.before.before.before.walk.ensures c.before.before.before.before.before.before.before.before.before.before.before.before.walk.auto.1.0 c.before.before.before.before.before.before.before.if1.false c.before.before.before.before.before.before.node-count.ensures.is (c.before.before.before.before.before.before.before.before.before.before.before.before.walk.auto.1.1.0 ∙ length-replicate {A = ℕ} 12544 0)
 
 -- src/lib.rt:153:5
 put-entries-requires : tie.Need-put-entries-requires
-put-entries-requires c κs = pre-entries (c.before.before.before.before.before.before.before.before.before.before.before.before.before.before.before.before.before.before.before.before.before.before.before.before.before.before.before.before.before.before.before.before.before.before.before.before.requires) c.before.before.before.before.before.before.before.before.before.before.before.before.before.before.before.before.before.before.before.before.before.before.before.before.before.walk.ensures c.before.before.before.before.before.before.before.before.before.before.before.before.before.before.before.before.before.before.before.before.before.before.before.before.before.walk.auto.1.0 c.before.before.before.before.before.before.before.before.before.before.before.before.before.before.before.before.before.before.before.before.if1.false c.before.before.before.before.before.before.before.before.before.before.before.before.before.before.before.before.before.before.before.node-count.ensures.is
+put-entries-requires c κs = pre_entries (c.before.before.before.before.before.before.before.before.before.before.before.before.before.before.before.before.before.before.before.before.before.before.before.before.before.before.before.before.before.before.before.before.before.before.before.before.requires) c.before.before.before.before.before.before.before.before.before.before.before.before.before.before.before.before.before.before.before.before.before.before.before.before.before.walk.ensures c.before.before.before.before.before.before.before.before.before.before.before.before.before.before.before.before.before.before.before.before.before.before.before.before.before.walk.auto.1.0 c.before.before.before.before.before.before.before.before.before.before.before.before.before.before.before.before.before.before.before.before.if1.false c.before.before.before.before.before.before.before.before.before.before.before.before.before.before.before.before.before.before.before.node-count.ensures.is
 
 -- src/lib.rt:130:1
 same-length-2 : tie.Need-same-length-2
@@ -92,10 +92,10 @@ same-length-8 c = search rules
 
 -- src/lib.rt:130:1
 returns-2 : tie.Need-returns-2
-returns-2 c = all-given (c.before.before.before.before.before.before.before.before.before.before.before.before.before.before.before.before.before.before.before.before.before.before.before.before.before.before.before.before.before.before.before.before.before.before.before.before.before.before.before.requires) c.before.before.before.before.before.before.before.before.before.before.before.before.before.before.before.before.before.before.before.before.before.before.before.before.before.before.before.before.walk.ensures c.before.before.before.before.before.before.before.before.before.before.before.before.before.before.before.before.before.before.before.before.before.before.before.before.before.before.before.before.walk.auto.1.0 c.before.before.before.before.before.before.before.before.before.before.before.before.before.before.before.before.before.before.before.before.before.before.before.if1.false c.before.before.before.before.before.before.before.before.before.before.before.before.before.before.before.before.before.before.before.before.before.before.node-count.ensures.is c.before.before.before.before.before.before.before.before.before.before.before.before.before.before.before.copy-out.ensures c.before.before.put_entries.ensures
+returns-2 c = all_given (c.before.before.before.before.before.before.before.before.before.before.before.before.before.before.before.before.before.before.before.before.before.before.before.before.before.before.before.before.before.before.before.before.before.before.before.before.before.before.before.requires) c.before.before.before.before.before.before.before.before.before.before.before.before.before.before.before.before.before.before.before.before.before.before.before.before.before.before.before.before.walk.ensures c.before.before.before.before.before.before.before.before.before.before.before.before.before.before.before.before.before.before.before.before.before.before.before.before.before.before.before.before.walk.auto.1.0 c.before.before.before.before.before.before.before.before.before.before.before.before.before.before.before.before.before.before.before.before.before.before.before.if1.false c.before.before.before.before.before.before.before.before.before.before.before.before.before.before.before.before.before.before.before.before.before.before.node-count.ensures.is c.before.before.before.before.before.before.before.before.before.before.before.before.before.before.before.copy-out.ensures c.before.before.put_entries.ensures
 
-pub resolve-accepted-spec : {M : Type 1} → statement M
-resolve-accepted-spec =
+pub resolve_accepted_spec : {M : Type 1} → statement M
+resolve_accepted_spec =
     tie.close
     (tie.spec
     sub-walk

@@ -11,8 +11,8 @@ use Rattle.std.proofs.Math.Option.{some}
 use Rattle.std.proofs.Math.Dec.{eqb}
 use Rattle.std.specs.Prelude.{length}
 use Rattle.std.proofs.Math.ListN.{get_elem?}
-use Rattle.base.specs.UpTo.{at-behind}
-use Rattle.lexical.specs.Lists.{first, none-some, eqb-self, eqb-true, Tested, was, wasnt, tested}
+use Rattle.base.specs.UpTo.{at_behind}
+use Rattle.lexical.specs.Lists.{first, none-some, eqb_self, eqb-true, Tested, was, wasnt, tested}
 use Rattle.lexical.specs.Places.{In}
 use Rattle.lexical.specs.Sums.{total, one, times}
 
@@ -20,7 +20,7 @@ module _ {A : Type 0} (f : A → ℕ) where
   pub times-at : (i : ℕ) (xs : List A) (j : ℕ) (a : A) → get_elem? xs j ≡ some a → f a ≡ i → 1 ≤ times i (map f xs)
   unfolding total one
   times-at i [] j a e q = absurd (none-some refl e)
-  times-at i (x ∷ xs) zero a e q = let z : x ≡ a = cc in let y : eqb i (f x) ≡ true = rw (z, q) (eqb-self i) in rw y (omega arith)
+  times-at i (x ∷ xs) zero a e q = let z : x ≡ a = cc in let y : eqb i (f x) ≡ true = rw (z, q) (eqb_self i) in rw y (omega arith)
   times-at i (x ∷ xs) (suc j) a e q = omega (arith, times-at i xs j a e q)
 
   pub found_at : (i : ℕ) (xs : List A) → 1 ≤ times i (map f xs) → (j : ℕ) × (a : A) × (get_elem? xs j ≡ some a) × (f a ≡ i)
@@ -32,27 +32,27 @@ module _ {A : Type 0} (f : A → ℕ) where
       go (was q) r = (0, x, refl, sym (eqb-true i (f x) q))
       go (wasnt q) r = let z : one i (f x) ≡ 0 = rw q refl in let (j, a, at, n) = r (omega arith) in (suc j, a, at, n)
 
-  pub first-once : (i : ℕ) (xs : List A) → times i (map f xs) ≤ 1 → (j : ℕ) (a : A) → get_elem? xs j ≡ some a → f a ≡ i → first (λ x. eqb (f x) i) xs ≡ some a
+  pub first_once : (i : ℕ) (xs : List A) → times i (map f xs) ≤ 1 → (j : ℕ) (a : A) → get_elem? xs j ≡ some a → f a ≡ i → first (λ x. eqb (f x) i) xs ≡ some a
   unfolding first total one
-  first-once i [] h j a e q = absurd (none-some refl e)
-  first-once i (x ∷ xs) h j a e q = go (tested (eqb (f x) i)) j e (λ j z. first-once i xs (omega (arith, h)) j a z q)
+  first_once i [] h j a e q = absurd (none-some refl e)
+  first_once i (x ∷ xs) h j a e q = go (tested (eqb (f x) i)) j e (λ j z. first_once i xs (omega (arith, h)) j a z q)
     where
       go : Tested (eqb (f x) i) → (j : ℕ) → get_elem? (x ∷ xs) j ≡ some a → ((j : ℕ) → get_elem? xs j ≡ some a → first (λ x. eqb (f x) i) xs ≡ some a) → first (λ x. eqb (f x) i) (x ∷ xs) ≡ some a
       go (was t) zero z r = rw t z
-      go (was t) (suc j) z r = absurd (let u : eqb i (f x) ≡ true = rw (eqb-true (f x) i t) (eqb-self i) in let v : one i (f x) ≡ 1 = rw u refl in omega (arith, h, times-at i xs j a z q))
-      go (wasnt t) zero z r = absurd (let y : x ≡ a = cc in let u : eqb (f x) i ≡ true = rw (y, q) (eqb-self i) in let v : ◌≡◌ {A = ℕ} 0 1 = cc in omega arith)
+      go (was t) (suc j) z r = absurd (let u : eqb i (f x) ≡ true = rw (eqb-true (f x) i t) (eqb_self i) in let v : one i (f x) ≡ 1 = rw u refl in omega (arith, h, times-at i xs j a z q))
+      go (wasnt t) zero z r = absurd (let y : x ≡ a = cc in let u : eqb (f x) i ≡ true = rw (y, q) (eqb_self i) in let v : ◌≡◌ {A = ℕ} 0 1 = cc in omega arith)
       go (wasnt t) (suc j) z r = rw t (r j z)
 
-pub times-in : (x : ℕ) (xs : List ℕ) → In x xs → 1 ≤ times x xs
+pub times_in : (x : ℕ) (xs : List ℕ) → In x xs → 1 ≤ times x xs
 unfolding total one
-times-in x (y ∷ xs) (inl e) = let z : eqb x y ≡ true = rw e (eqb-self y) in rw z (omega arith)
-times-in x (y ∷ xs) (inr m) = omega (arith, times-in x xs m)
-times-in x [] m = absurd m
+times_in x (y ∷ xs) (inl e) = let z : eqb x y ≡ true = rw e (eqb_self y) in rw z (omega arith)
+times_in x (y ∷ xs) (inr m) = omega (arith, times_in x xs m)
+times_in x [] m = absurd m
 
-pub in-times : (x : ℕ) (xs : List ℕ) → 1 ≤ times x xs → In x xs
+pub in_times : (x : ℕ) (xs : List ℕ) → 1 ≤ times x xs → In x xs
 unfolding total one
-in-times x [] h = absurd (omega arith)
-in-times x (y ∷ xs) h = go (tested (eqb x y)) (λ l. in-times x xs l)
+in_times x [] h = absurd (omega arith)
+in_times x (y ∷ xs) h = go (tested (eqb x y)) (λ l. in_times x xs l)
   where
     go : Tested (eqb x y) → (1 ≤ times x xs → In x xs) → In x (y ∷ xs)
     go (was e) r = inl (eqb-true x y e)
@@ -63,7 +63,7 @@ module _ {A : Type 0} (g : List A → List (List ℕ)) (h : A → List (List ℕ
   pub row_in : (es : List A) (j : ℕ) (e : A) (row : List ℕ) → get_elem? es j ≡ some e → h e ≡ row ∷ [] → (k : ℕ) × (get_elem? (g es) k ≡ some row)
   row_in [] j e row p r = absurd (none-some refl p)
   row_in (x ∷ es) zero e row p r = let z : x ≡ e = cc in (0, rw (more x es, z, r) refl)
-  row_in (x ∷ es) (suc j) e row p r = let (k, a) = row_in es j e row p r in (length (h x) + k, ap (λ (l : List (List ℕ)). get_elem? l (length (h x) + k)) (more x es) ∙ at-behind (h x) (g es) k ∙ a)
+  row_in (x ∷ es) (suc j) e row p r = let (k, a) = row_in es j e row p r in (length (h x) + k, ap (λ (l : List (List ℕ)). get_elem? l (length (h x) + k)) (more x es) ∙ at_behind (h x) (g es) k ∙ a)
 
   pub row_from : ((e : A) → length (h e) ≤ 1) → (es : List A) (k : ℕ) (row : List ℕ) → get_elem? (g es) k ≡ some row → (j : ℕ) × (e : A) × (get_elem? es j ≡ some e) × (h e ≡ row ∷ [])
   row_from s [] k row a = absurd (none-some refl (rw none_left at a))

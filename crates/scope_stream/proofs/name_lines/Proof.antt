@@ -38,8 +38,8 @@ loop-again c = omega arith
 returns : tie.Need-returns invariant-loop decreases-loop
 returns c = tt
 
-pub name-lines-spec : {M : Type 1} → statement M
-name-lines-spec =
+pub name_lines_spec : {M : Type 1} → statement M
+name_lines_spec =
     tie.close
     (tie.spec
     invariant-loop

@@ -41,8 +41,8 @@ loop-again c = omega arith
 returns-2 : tie.Need-returns-2 invariant-loop decreases-loop
 returns-2 c = tt
 
-pub slot-lines-spec : {M : Type 1} → statement M
-slot-lines-spec =
+pub slot_lines_spec : {M : Type 1} → statement M
+slot_lines_spec =
     tie.close
     (tie.spec
     invariant-loop

@@ -8,7 +8,7 @@ use Rattle.base.specs.First.{here, later}
 use Rattle.scoping.specs.Depth.{TooDeep}
 use Rattle.scoping.specs.Scopes.{BadScopes}
 use Rattle.scoping.specs.Params.{BadParams}
-use Rattle.scoping.proofs.Answers.{shape-sound, nodes-few, sound-held, params-known, says-depth, unset}
+use Rattle.scoping.proofs.Answers.{shape_sound, nodes_few, sound_held, params_known, says_depth, unset}
 use borrow.Author.Rules.{rules}
 use Rattle.scoping.proofs.judge_scopes.Statement.{statement}
 use Rattle.scoping.proofs.judge_scopes.Tie as tie
@@ -17,18 +17,18 @@ nodes-requires : tie.Need-nodes-requires
 nodes-requires c κs = search rules
 
 deeper-requires : tie.Need-deeper-requires
-deeper-requires c κs = (sound-held (shape-sound c.before.before.requires c.nodes.ensures), omega arith)
+deeper-requires c κs = (sound_held (shape_sound c.before.before.requires c.nodes.ensures), omega arith)
 
 returns : tie.Need-returns
 returns c =
     let deeper' = c.before.deeper in
     let nodes' = c.before.before.nodes in
-    let said9' = subst (λ (l : List ℕ). Says deeper'.result (TooDeep l)) nodes'.ensures (says-depth deeper'.result (shape-sound c.before.before.before.before.requires nodes'.ensures) deeper'.ensures) in
+    let said9' = subst (λ (l : List ℕ). Says deeper'.result (TooDeep l)) nodes'.ensures (says_depth deeper'.result (shape_sound c.before.before.before.before.requires nodes'.ensures) deeper'.ensures) in
     here (says-true c.if1.true said9') refl
 
 bad-scopes-requires : tie.Need-bad-scopes-requires
 bad-scopes-requires c κs =
-    let few' = nodes-few c.before.before.before.before.before.requires.header c.before.before.before.nodes.ensures in
+    let few' = nodes_few c.before.before.before.before.before.requires.header c.before.before.before.nodes.ensures in
     (few'.whole, few'.few, unset)
 
 returns-2 : tie.Need-returns-2
@@ -36,7 +36,7 @@ returns-2 c =
     let deeper' = c.before.before.before.before.deeper in
     let nodes' = c.before.before.before.before.before.nodes in
     let bad-scopes' = c.before.bad-scopes in
-    let said9' = subst (λ (l : List ℕ). Says deeper'.result (TooDeep l)) nodes'.ensures (says-depth deeper'.result (shape-sound c.before.before.before.before.before.before.before.requires nodes'.ensures) deeper'.ensures) in
+    let said9' = subst (λ (l : List ℕ). Says deeper'.result (TooDeep l)) nodes'.ensures (says_depth deeper'.result (shape_sound c.before.before.before.before.before.before.before.requires nodes'.ensures) deeper'.ensures) in
     let said10' = subst (λ (l : List ℕ). Says bad-scopes'.result (BadScopes l)) nodes'.ensures bad-scopes'.ensures.0 in
     later (says-false c.before.before.before.if1.false said9') (here (says-true c.if2.true said10') refl)
 
@@ -44,7 +44,7 @@ bad-params-requires : tie.Need-bad-params-requires
 bad-params-requires c κs =
     let nodes' = c.before.before.before.before.before.before.nodes in
     let pre' = c.before.before.before.before.before.before.before.before.requires in
-    (shape-sound pre' nodes'.ensures, c.before.before.bad-scopes.ensures.1 c.before.if2.false, params-known pre' nodes'.ensures)
+    (shape_sound pre' nodes'.ensures, c.before.before.bad-scopes.ensures.1 c.before.if2.false, params_known pre' nodes'.ensures)
 
 returns-3 : tie.Need-returns-3
 returns-3 c =
@@ -52,7 +52,7 @@ returns-3 c =
     let nodes' = c.before.before.before.before.before.before.before.before.nodes in
     let bad-scopes' = c.before.before.before.before.bad-scopes in
     let bad-params' = c.before.bad-params in
-    let said9' = subst (λ (l : List ℕ). Says deeper'.result (TooDeep l)) nodes'.ensures (says-depth deeper'.result (shape-sound c.before.before.before.before.before.before.before.before.before.before.requires nodes'.ensures) deeper'.ensures) in
+    let said9' = subst (λ (l : List ℕ). Says deeper'.result (TooDeep l)) nodes'.ensures (says_depth deeper'.result (shape_sound c.before.before.before.before.before.before.before.before.before.before.requires nodes'.ensures) deeper'.ensures) in
     let said10' = subst (λ (l : List ℕ). Says bad-scopes'.result (BadScopes l)) nodes'.ensures bad-scopes'.ensures.0 in
     let said11' = subst (λ (l : List ℕ). Says bad-params'.result (BadParams l)) nodes'.ensures bad-params'.ensures in
     later (says-false c.before.before.before.before.before.before.if1.false said9') (later (says-false c.before.before.before.if2.false said10') (here (says-true c.if3.true said11') refl))
@@ -63,13 +63,13 @@ returns-4 c =
     let nodes' = c.before.before.before.before.before.before.before.before.nodes in
     let bad-scopes' = c.before.before.before.before.bad-scopes in
     let bad-params' = c.before.bad-params in
-    let said9' = subst (λ (l : List ℕ). Says deeper'.result (TooDeep l)) nodes'.ensures (says-depth deeper'.result (shape-sound c.before.before.before.before.before.before.before.before.before.before.requires nodes'.ensures) deeper'.ensures) in
+    let said9' = subst (λ (l : List ℕ). Says deeper'.result (TooDeep l)) nodes'.ensures (says_depth deeper'.result (shape_sound c.before.before.before.before.before.before.before.before.before.before.requires nodes'.ensures) deeper'.ensures) in
     let said10' = subst (λ (l : List ℕ). Says bad-scopes'.result (BadScopes l)) nodes'.ensures bad-scopes'.ensures.0 in
     let said11' = subst (λ (l : List ℕ). Says bad-params'.result (BadParams l)) nodes'.ensures bad-params'.ensures in
     later (says-false c.before.before.before.before.before.before.if1.false said9') (later (says-false c.before.before.before.if2.false said10') (later (says-false c.if3.false said11') refl))
 
-pub judge-scopes-spec : {M : Type 1} → statement M
-judge-scopes-spec =
+pub judge_scopes_spec : {M : Type 1} → statement M
+judge_scopes_spec =
     tie.close
     (tie.spec
     nodes-requires

@@ -1,6 +1,6 @@
 -- Where each scope number stands: cell v holds one more than the number of the node that has v, or 0.
 use Rattle.std.specs.Prelude.{ℕ, ◌+◌, ◌*◌, ◌<◌, ◌≡◌, true, List, length, get_or}
-use Rattle.scoping.specs.Scopes.{isScope, number}
+use Rattle.scoping.specs.Scopes.{is_scope, number}
 
 -- 256 cells that hold 0
 pub record Unset (found : List ℕ) : Type 0 where
@@ -10,7 +10,7 @@ pub record Unset (found : List ℕ) : Type 0 where
 -- node i is a Def or a Lambda
 pub record Scope (ns : List ℕ) (i : ℕ) : Type 0 where
   pub inside : 8 * i < length ns
-  pub scope : isScope ns i ≡ true
+  pub scope : is_scope ns i ≡ true
 
 pub record Source (ns found : List ℕ) (v : ℕ) : Type 0 where
   pub node : ℕ

@@ -46,8 +46,8 @@ returns-3 c =
     let said8' = subst (λ (l : List ℕ). Says bad-children'.result (BadChildren l)) nodes'.ensures bad-children'.ensures in
     later (says-false c.before.before.if1.false said7') (later (says-false c.if2.false said8') refl)
 
-pub judge-shape-spec : {M : Type 1} → statement M
-judge-shape-spec =
+pub judge_shape_spec : {M : Type 1} → statement M
+judge_shape_spec =
     tie.close
     (tie.spec
     name-count-requires

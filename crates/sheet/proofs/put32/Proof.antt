@@ -56,8 +56,8 @@ same_length c = c.before.loop.invariant.1.long
 returns : tie.Need-returns invariant-loop decreases-loop
 returns c = let e : c.before.loop.i ≡ length c.before.before.before.before.args.list.now = omega arith in rw e at c.before.loop.invariant.1
 
-pub put32-spec : {M : Type 1} → statement M
-put32-spec =
+pub put32_spec : {M : Type 1} → statement M
+put32_spec =
     tie.close
     (tie.spec
     invariant-loop

@@ -53,8 +53,8 @@ same_length c = c.before.loop.invariant.1.long
 returns : tie.Need-returns invariant-loop decreases-loop
 returns c = let e : c.before.loop.i ≡ length c.before.before.before.before.args.list.now = omega arith in rw e at c.before.loop.invariant.1
 
-pub put64-spec : {M : Type 1} → statement M
-put64-spec =
+pub put64_spec : {M : Type 1} → statement M
+put64_spec =
     tie.close
     (tie.spec
     invariant-loop

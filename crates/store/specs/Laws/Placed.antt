@@ -11,32 +11,32 @@ use Rattle.lexical.specs.Lists.{none-some}
 use Rattle.lexical.specs.Binders.{Var}
 use Rattle.lexical.specs.Module.{Entry, File}
 use Rattle.lexical.specs.State.{Binding}
-use Rattle.lexical.specs.First.{entrySlot, moduleBinding}
-use Rattle.store.specs.Blocks.{BlockEnv, moduleSlot, moduleBlock, placed, placedFrom}
+use Rattle.lexical.specs.First.{entry_slot, module_binding}
+use Rattle.store.specs.Blocks.{BlockEnv, module_slot, module_block, placed, placed_from}
 
 module _ (E : BlockEnv) where
-  pub placed-length : (k : ℕ) (vs : List Var) → length (placedFrom E k vs) ≡ length vs
-  unfolding placedFrom
-  placed-length k [] = refl
-  placed-length k (v ∷ vs) = ap suc (placed-length (suc k) vs)
+  pub placed_length : (k : ℕ) (vs : List Var) → length (placed_from E k vs) ≡ length vs
+  unfolding placed_from
+  placed_length k [] = refl
+  placed_length k (v ∷ vs) = ap suc (placed_length (suc k) vs)
 
-  snoc-from : (k : ℕ) (vs : List Var) (v : Var) → placedFrom E k (vs ++ (v ∷ [])) ≡ placedFrom E k vs ++ (placed E (k + length vs) v ∷ [])
-  unfolding placedFrom
-  snoc-from k [] v = let e : k + 0 ≡ k = omega arith in rw e refl
-  snoc-from k (x ∷ vs) v = let e : suc k + length vs ≡ k + suc (length vs) = omega arith in rw (← e) (ap (λ (l : List Binding). placed E k x ∷ l) (snoc-from (suc k) vs v))
+  snoc_from : (k : ℕ) (vs : List Var) (v : Var) → placed_from E k (vs ++ (v ∷ [])) ≡ placed_from E k vs ++ (placed E (k + length vs) v ∷ [])
+  unfolding placed_from
+  snoc_from k [] v = let e : k + 0 ≡ k = omega arith in rw e refl
+  snoc_from k (x ∷ vs) v = let e : suc k + length vs ≡ k + suc (length vs) = omega arith in rw (← e) (ap (λ (l : List Binding). placed E k x ∷ l) (snoc_from (suc k) vs v))
 
   -- one variable more
-  pub placed_snoc : (vs : List Var) (v : Var) → placedFrom E 0 (vs ++ (v ∷ [])) ≡ placedFrom E 0 vs ++ (placed E (length vs) v ∷ [])
-  placed_snoc vs v = rw zero-add at (snoc-from 0 vs v)
+  pub placed_snoc : (vs : List Var) (v : Var) → placed_from E 0 (vs ++ (v ∷ [])) ≡ placed_from E 0 vs ++ (placed E (length vs) v ∷ [])
+  placed_snoc vs v = rw zero-add at (snoc_from 0 vs v)
 
 -- ---- the module's entries
 
-pub slot-entry : (taken : List ℕ) (es : List Entry) (k : ℕ) (e : Entry) → get_elem? es k ≡ some e → moduleSlot taken es k ≡ e.slot
-unfolding moduleSlot entrySlot
-slot-entry taken [] k e q = absurd (none-some refl q)
-slot-entry taken (x ∷ es) zero e q = let z : x ≡ e = cc in ap (λ (y : Entry). y.slot) z
-slot-entry taken (x ∷ es) (suc k) e q = slot-entry (x.slot ∷ taken) es k e q
+pub slot_entry : (taken : List ℕ) (es : List Entry) (k : ℕ) (e : Entry) → get_elem? es k ≡ some e → module_slot taken es k ≡ e.slot
+unfolding module_slot entry_slot
+slot_entry taken [] k e q = absurd (none-some refl q)
+slot_entry taken (x ∷ es) zero e q = let z : x ≡ e = cc in ap (λ (y : Entry). y.slot) z
+slot_entry taken (x ∷ es) (suc k) e q = slot_entry (x.slot ∷ taken) es k e q
 
-pub placed-entry : (F : File) (k : ℕ) (e : Entry) (v : Var) → get_elem? F.entries k ≡ some e → placed (moduleBlock F) k v ≡ moduleBinding k v e.slot
-unfolding placed moduleBlock moduleBinding
-placed-entry F k e v q = rw (zero-add k, slot-entry [] F.entries k e q) refl
+pub placed_entry : (F : File) (k : ℕ) (e : Entry) (v : Var) → get_elem? F.entries k ≡ some e → placed (module_block F) k v ≡ module_binding k v e.slot
+unfolding placed module_block module_binding
+placed_entry F k e v q = rw (zero-add k, slot_entry [] F.entries k e q) refl

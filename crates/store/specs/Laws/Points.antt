@@ -6,7 +6,7 @@ use Rattle.std.proofs.Math.Option.{none, some}
 use Rattle.std.proofs.Math.Decide.{ℕ_discrete}
 use Rattle.std.proofs.Math.ListN.{get_elem?}
 use Rattle.lexical.specs.Lists.{none-some}
-use Rattle.lexical.specs.Places.{at-end}
+use Rattle.lexical.specs.Places.{at_end}
 use Rattle.store.specs.Sections.{Point, word_at, or_zero}
 
 -- place j is none of the n places from base on; `omega arith` proves it
@@ -23,20 +23,20 @@ zeros (suc n) zero = refl
 zeros (suc n) (suc i) = zeros n i
 
 -- a store elsewhere
-pub point-skip : (l : List ℕ) (base n : ℕ) (f : ℕ → ℕ) (j v : ℕ) → Off j base n → Point l base n f → Point (set l j v) base n f
-point-skip l base n f j v h p i b = get_or-set_other l j (base + i) v 0 (h i b) ∙ p i b
+pub point_skip : (l : List ℕ) (base n : ℕ) (f : ℕ → ℕ) (j v : ℕ) → Off j base n → Point l base n f → Point (set l j v) base n f
+point_skip l base n f j v h p i b = get_or-set_other l j (base + i) v 0 (h i b) ∙ p i b
 
 -- a store at place j, which is k in the section
-pub point-set : (l : List ℕ) (base n : ℕ) (f f' : ℕ → ℕ) (j k v : ℕ) → j ≡ base + k → j < length l → f' k ≡ v → ((i : ℕ) → i < n → (i ≡ k → ⊥) → f' i ≡ f i) → Point l base n f → Point (set l j v) base n f'
-point-set l base n f f' j k v a h e o p i b =
+pub point_set : (l : List ℕ) (base n : ℕ) (f f' : ℕ → ℕ) (j k v : ℕ) → j ≡ base + k → j < length l → f' k ≡ v → ((i : ℕ) → i < n → (i ≡ k → ⊥) → f' i ≡ f i) → Point l base n f → Point (set l j v) base n f'
+point_set l base n f f' j k v a h e o p i b =
     elim (ℕ_discrete i k) [
       | yes q ↦ let x : base + i ≡ j = omega arith in rw (x, q) (get_or-set_same l j v 0 h ∙ sym e)
       | no q ↦ get_or-set_other l j (base + i) v 0 (omega arith) ∙ p i b ∙ sym (o i b q)
     ]
 
 -- another function with the same values
-pub point-same : (l : List ℕ) (base n : ℕ) (f f' : ℕ → ℕ) → ((i : ℕ) → i < n → f i ≡ f' i) → Point l base n f → Point l base n f'
-point-same l base n f f' e p i b = p i b ∙ e i b
+pub point_same : (l : List ℕ) (base n : ℕ) (f f' : ℕ → ℕ) → ((i : ℕ) → i < n → f i ≡ f' i) → Point l base n f → Point l base n f'
+point_same l base n f f' e p i b = p i b ∙ e i b
 
 -- ---- a section that holds a list
 
@@ -57,36 +57,36 @@ module _ {A : Type 0} where
   at_others (x ∷ xs) a zero h = refl
   at_others (x ∷ xs) a (suc i) h = at_others xs a i (omega arith)
 
-  pub absent-past : (xs : List A) (i : ℕ) → get_elem? xs i ≡ none → length xs ≤ i
-  absent-past [] i e = omega arith
-  absent-past (x ∷ xs) zero e = absurd (none-some e refl)
-  absent-past (x ∷ xs) (suc i) e = omega (arith, absent-past xs i e)
+  pub absent_past : (xs : List A) (i : ℕ) → get_elem? xs i ≡ none → length xs ≤ i
+  absent_past [] i e = omega arith
+  absent_past (x ∷ xs) zero e = absurd (none-some e refl)
+  absent_past (x ∷ xs) (suc i) e = omega (arith, absent_past xs i e)
 
-  pub replaced-long : {k : ℕ} {a : A} {xs xs' : List A} → Replaced k a xs xs' → k < length xs → length xs' ≤ length xs
-  replaced-long {k} {a} {xs} {xs'} r h = absent-past xs' (length xs) (r.other (length xs) (omega arith) ∙ past xs (length xs) (omega arith))
+  pub replaced_long : {k : ℕ} {a : A} {xs xs' : List A} → Replaced k a xs xs' → k < length xs → length xs' ≤ length xs
+  replaced_long {k} {a} {xs} {xs'} r h = absent_past xs' (length xs) (r.other (length xs) (omega arith) ∙ past xs (length xs) (omega arith))
 
 module _ {A : Type 0} (f : A → ℕ) where
   -- no element: all zeros
-  pub point-none : (l : List ℕ) (base n : ℕ) → Zeros l → Point l base n (word_at f [])
+  pub point_none : (l : List ℕ) (base n : ℕ) → Zeros l → Point l base n (word_at f [])
   unfolding or_zero
-  point-none l base n z i b = z (base + i)
+  point_none l base n z i b = z (base + i)
 
-  pub word-at : (xs : List A) (i : ℕ) (a : A) → get_elem? xs i ≡ some a → word_at f xs i ≡ f a
+  pub word_at_lem : (xs : List A) (i : ℕ) (a : A) → get_elem? xs i ≡ some a → word_at f xs i ≡ f a
   unfolding or_zero
-  word-at xs i a e = ap (or_zero f) e
+  word_at_lem xs i a e = ap (or_zero f) e
 
   -- one element more
-  pub point-push : (l : List ℕ) (base n : ℕ) (xs : List A) (a : A) (j v : ℕ) → j ≡ base + length xs → j < length l → v ≡ f a → Point l base n (word_at f xs) → Point (set l j v) base n (word_at f (xs ++ (a ∷ [])))
-  point-push l base n xs a j v e h q p =
-      point-set l base n (word_at f xs) (word_at f (xs ++ (a ∷ []))) j (length xs) v e h
-      (word-at (xs ++ (a ∷ [])) (length xs) a (at-end xs a) ∙ sym q) (λ i b o. ap (or_zero f) (at_others xs a i o)) p
+  pub point_push : (l : List ℕ) (base n : ℕ) (xs : List A) (a : A) (j v : ℕ) → j ≡ base + length xs → j < length l → v ≡ f a → Point l base n (word_at f xs) → Point (set l j v) base n (word_at f (xs ++ (a ∷ [])))
+  point_push l base n xs a j v e h q p =
+      point_set l base n (word_at f xs) (word_at f (xs ++ (a ∷ []))) j (length xs) v e h
+      (word_at_lem (xs ++ (a ∷ [])) (length xs) a (at_end xs a) ∙ sym q) (λ i b o. ap (or_zero f) (at_others xs a i o)) p
 
   -- element k replaced
-  pub point-replaced : (l : List ℕ) (base n : ℕ) (xs xs' : List A) (j k : ℕ) (a : A) (v : ℕ) → Replaced k a xs xs' → j ≡ base + k → j < length l → v ≡ f a → Point l base n (word_at f xs) → Point (set l j v) base n (word_at f xs')
-  point-replaced l base n xs xs' j k a v r e h q p =
-      point-set l base n (word_at f xs) (word_at f xs') j k v e h (word-at xs' k a r.here ∙ sym q) (λ i b o. ap (or_zero f) (r.other i o)) p
+  pub point_replaced : (l : List ℕ) (base n : ℕ) (xs xs' : List A) (j k : ℕ) (a : A) (v : ℕ) → Replaced k a xs xs' → j ≡ base + k → j < length l → v ≡ f a → Point l base n (word_at f xs) → Point (set l j v) base n (word_at f xs')
+  point_replaced l base n xs xs' j k a v r e h q p =
+      point_set l base n (word_at f xs) (word_at f xs') j k v e h (word_at_lem xs' k a r.here ∙ sym q) (λ i b o. ap (or_zero f) (r.other i o)) p
 
   -- element k replaced by one with the same number
-  pub point-kept : (l : List ℕ) (base n : ℕ) (xs xs' : List A) (k : ℕ) (a b : A) → Replaced k a xs xs' → get_elem? xs k ≡ some b → f b ≡ f a → Point l base n (word_at f xs) → Point l base n (word_at f xs')
-  point-kept l base n xs xs' k a b r e q p i h =
-      p i h ∙ elim (ℕ_discrete i k) [ yes z ↦ rw z (word-at xs k b e ∙ q ∙ sym (word-at xs' k a r.here)) | no z ↦ ap (or_zero f) (sym (r.other i z)) ]
+  pub point_kept : (l : List ℕ) (base n : ℕ) (xs xs' : List A) (k : ℕ) (a b : A) → Replaced k a xs xs' → get_elem? xs k ≡ some b → f b ≡ f a → Point l base n (word_at f xs) → Point l base n (word_at f xs')
+  point_kept l base n xs xs' k a b r e q p i h =
+      p i h ∙ elim (ℕ_discrete i k) [ yes z ↦ rw z (word_at_lem xs k b e ∙ q ∙ sym (word_at_lem xs' k a r.here)) | no z ↦ ap (or_zero f) (sym (r.other i z)) ]

@@ -61,8 +61,8 @@ same-length-2 c = search rules
 returns-4 : tie.Need-returns-4
 returns-4 c = (search rules, simp length-take (omega arith))
 
-pub next-spec : {M : Type 1} → statement M
-next-spec =
+pub next_spec : {M : Type 1} → statement M
+next_spec =
     tie.close
     (tie.spec
     slice-aggregate-read-full

@@ -1,6 +1,6 @@
 -- `target::collect_assign_ident` meets its contract (Ways).
 use native.Mathlib.Omega.{arith}
-use Rattle.target.proofs.Ways.{met-again, met-local, met-module, target-full, target-again, target-local, target-module}
+use Rattle.target.proofs.Ways.{met-again, met-local, met-module, target-full, target-again, target_local, target_module}
 use borrow.Author.Rules.{rules}
 use Rattle.target.proofs.collect_assign_ident.Statement.{statement}
 use Rattle.target.proofs.collect_assign_ident.Tie as tie
@@ -45,7 +45,7 @@ same-length-6 : tie.Need-same-length-6
 same-length-6 c = search rules
 
 returns-3 : tie.Need-returns-3
-returns-3 c = target-local c.before.before.before.before.before.before.before.before.before.before.before.before.before.before.before.before.before.before.if1.false c.before.before.before.before.before.before.before.before.before.before.before.before.before.before.known.result c.before.before.before.before.before.before.before.before.before.before.before.before.before.before.known.ensures.0 c.before.before.before.before.before.before.before.before.before.before.before.before.before.before.before.before.visibility.ensures (omega arith) c.before.before.before.before.before.before.before.before.before.before.before.if3.true c.before.before.before.before.before.before.new-local.ensures
+returns-3 c = target_local c.before.before.before.before.before.before.before.before.before.before.before.before.before.before.before.before.before.before.if1.false c.before.before.before.before.before.before.before.before.before.before.before.before.before.before.known.result c.before.before.before.before.before.before.before.before.before.before.before.before.before.before.known.ensures.0 c.before.before.before.before.before.before.before.before.before.before.before.before.before.before.before.before.visibility.ensures (omega arith) c.before.before.before.before.before.before.before.before.before.before.before.if3.true c.before.before.before.before.before.before.new-local.ensures
 
 new-module-requires : tie.Need-new-module-requires
 new-module-requires c κs = let k = c.before.before.before.before.before.before.known in let p = c.before.before.before.before.before.before.before.before.before.before.before.before.before.before.requires in (p.long, met-module c.before.before.before.before.before.before.before.before.before.before.if1.false k.result k.ensures.0 p.ghost (omega arith) c.before.before.before.if3.false)
@@ -60,10 +60,10 @@ same-length-9 : tie.Need-same-length-9
 same-length-9 c = search rules
 
 returns-4 : tie.Need-returns-4
-returns-4 c = target-module c.before.before.before.before.before.before.before.before.before.before.before.before.before.before.before.before.before.if1.false c.before.before.before.before.before.before.before.before.before.before.before.before.before.known.result c.before.before.before.before.before.before.before.before.before.before.before.before.before.known.ensures.0 c.before.before.before.before.before.before.before.before.before.before.before.before.before.before.before.visibility.ensures (omega arith) c.before.before.before.before.before.before.before.before.before.before.if3.false c.before.before.before.before.before.before.new-module.ensures
+returns-4 c = target_module c.before.before.before.before.before.before.before.before.before.before.before.before.before.before.before.before.before.if1.false c.before.before.before.before.before.before.before.before.before.before.before.before.before.known.result c.before.before.before.before.before.before.before.before.before.before.before.before.before.known.ensures.0 c.before.before.before.before.before.before.before.before.before.before.before.before.before.before.before.visibility.ensures (omega arith) c.before.before.before.before.before.before.before.before.before.before.if3.false c.before.before.before.before.before.before.new-module.ensures
 
-pub collect-assign-ident-spec : {M : Type 1} → statement M
-collect-assign-ident-spec =
+pub collect_assign_ident_spec : {M : Type 1} → statement M
+collect_assign_ident_spec =
     tie.close
     (tie.spec
     returns

@@ -2,8 +2,8 @@
 use mathlib.Core.Path.{ap}
 use native.Mathlib.Omega.{arith}
 use lib.ListN.{length, length-set}
-use Rattle.target.proofs.New.{fresh-many, fresh-slots}
-use Rattle.target.proofs.Local.{scope-few, slot-few, local-done}
+use Rattle.target.proofs.New.{fresh_many, fresh_slots}
+use Rattle.target.proofs.Local.{scope_few, slot_few, local_done}
 use borrow.Author.Rules.{rules}
 use Rattle.target.proofs.new_local.Statement.{statement}
 use Rattle.target.proofs.new_local.Tie as tie
@@ -12,37 +12,37 @@ filled-requires : tie.Need-filled-requires
 filled-requires c κs = search rules
 
 returns : tie.Need-returns
-returns c = fresh-many c.filled.ensures (omega arith)
+returns c = fresh_many c.filled.ensures (omega arith)
 
 filled-requires-2 : tie.Need-filled-requires-2
 filled-requires-2 c κs = search rules
 
 returns-2 : tie.Need-returns-2
-returns-2 c = fresh-slots c.filled2.ensures (omega arith)
+returns-2 c = fresh_slots c.filled2.ensures (omega arith)
 
 fresh-slot-requires : tie.Need-fresh-slot-requires
 fresh-slot-requires c κs = search rules
 
 put-binding-requires : tie.Need-put-binding-requires
-put-binding-requires c κs = let g = c.before.before.before.before.before.before.before.before.requires.1 in omega (arith, slot-few g c.before.fresh-slot.result (omega arith) c.before.fresh-slot.ensures.0, g.small, g.node)
+put-binding-requires c κs = let g = c.before.before.before.before.before.before.before.before.requires.1 in omega (arith, slot_few g c.before.fresh-slot.result (omega arith) c.before.fresh-slot.ensures.0, g.small, g.node)
 
 put-answer-requires : tie.Need-put-answer-requires
-put-answer-requires c κs = let g = c.before.before.before.before.before.before.before.before.before.before.before.before.requires.1 in omega (arith, slot-few g c.before.before.before.before.before.fresh-slot.result (omega arith) c.before.before.before.before.before.fresh-slot.ensures.0, g.node)
+put-answer-requires c κs = let g = c.before.before.before.before.before.before.before.before.before.before.before.before.requires.1 in omega (arith, slot_few g c.before.before.before.before.before.fresh-slot.result (omega arith) c.before.before.before.before.before.fresh-slot.ensures.0, g.node)
 
 put-slot-requires : tie.Need-put-slot-requires
-put-slot-requires c κs = let g = c.before.before.before.before.before.before.before.before.before.before.before.before.before.before.before.before.requires.1 in (omega arith, scope-few g, omega (arith, g.small), search rules)
+put-slot-requires c κs = let g = c.before.before.before.before.before.before.before.before.before.before.before.before.before.before.before.before.requires.1 in (omega arith, scope_few g, omega (arith, g.small), search rules)
 
 put-known-requires : tie.Need-put-known-requires
 put-known-requires c κs = search rules
 
 put-owner-requires : tie.Need-put-owner-requires
-put-owner-requires c κs = (omega arith, scope-few c.before.before.before.before.before.before.before.before.before.before.before.before.before.before.before.before.before.before.before.before.before.before.before.before.requires.1, search rules)
+put-owner-requires c κs = (omega arith, scope_few c.before.before.before.before.before.before.before.before.before.before.before.before.before.before.before.before.before.before.before.before.before.before.before.before.requires.1, search rules)
 
 link-slot-requires : tie.Need-link-slot-requires
 link-slot-requires c κs = (
   omega arith,
   omega arith,
-  slot-few c.before.before.before.before.before.before.before.before.before.before.before.before.before.before.before.before.before.before.before.before.before.before.before.before.before.before.before.before.requires.1 c.before.before.before.before.before.before.before.before.before.before.before.before.before.before.before.before.before.before.before.before.before.fresh-slot.result (omega arith) c.before.before.before.before.before.before.before.before.before.before.before.before.before.before.before.before.before.before.before.before.before.fresh-slot.ensures.0,
+  slot_few c.before.before.before.before.before.before.before.before.before.before.before.before.before.before.before.before.before.before.before.before.before.before.before.before.before.before.before.before.requires.1 c.before.before.before.before.before.before.before.before.before.before.before.before.before.before.before.before.before.before.before.before.before.fresh-slot.result (omega arith) c.before.before.before.before.before.before.before.before.before.before.before.before.before.before.before.before.before.before.before.before.before.fresh-slot.ensures.0,
   omega (arith, simp length-set at (ap length c.before.before.before.put-owner.ensures), simp length-set at (ap length c.before.before.before.before.before.before.before.put-known.ensures), c.before.before.before.before.before.before.before.before.before.before.before.before.before.before.before.before.before.before.before.before.before.before.before.before.before.before.before.before.requires.0.t),
 )
 
@@ -64,11 +64,11 @@ same-length-3 c = search rules
 returns-3 : tie.Need-returns-3
 returns-3 c =
     let n = c.before.before.before.before.before.before.before.before.before.before.before.before.before.before.before.before.before.before.before.before.before.before.before.before.fresh-slot in
-    local-done n.result c.before.before.before.before.before.before.before.before.before.before.before.before.before.before.before.before.before.before.before.before.before.before.before.before.before.before.before.before.before.before.before.requires.0 (omega arith) (omega arith) n.ensures.0 c.before.before.before.before.before.before.before.before.before.before.before.before.before.before.before.before.before.before.before.before.before.before.put-binding.ensures c.before.before.before.before.before.before.before.before.before.before.before.before.before.before.before.before.before.before.put-answer.ensures c.before.before.before.before.before.before.before.before.before.before.before.before.before.before.put-slot.ensures c.before.before.before.before.before.before.before.before.before.before.put-known.ensures c.before.before.before.before.before.before.put-owner.ensures
+    local_done n.result c.before.before.before.before.before.before.before.before.before.before.before.before.before.before.before.before.before.before.before.before.before.before.before.before.before.before.before.before.before.before.before.requires.0 (omega arith) (omega arith) n.ensures.0 c.before.before.before.before.before.before.before.before.before.before.before.before.before.before.before.before.before.before.before.before.before.before.put-binding.ensures c.before.before.before.before.before.before.before.before.before.before.before.before.before.before.before.before.before.before.put-answer.ensures c.before.before.before.before.before.before.before.before.before.before.before.before.before.before.put-slot.ensures c.before.before.before.before.before.before.before.before.before.before.put-known.ensures c.before.before.before.before.before.before.put-owner.ensures
     c.before.before.link-slot.ensures
 
-pub new-local-spec : {M : Type 1} → statement M
-new-local-spec =
+pub new_local_spec : {M : Type 1} → statement M
+new_local_spec =
     tie.close
     (tie.spec
     filled-requires

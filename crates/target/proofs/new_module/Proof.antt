@@ -1,7 +1,7 @@
 -- `target::new_module` meets its contract (New, Module).
 use native.Mathlib.Omega.{arith}
-use Rattle.target.proofs.New.{fresh-many}
-use Rattle.target.proofs.Module.{module-done}
+use Rattle.target.proofs.New.{fresh_many}
+use Rattle.target.proofs.Module.{module_done}
 use borrow.Author.Rules.{rules}
 use Rattle.target.proofs.new_module.Statement.{statement}
 use Rattle.target.proofs.new_module.Tie as tie
@@ -10,7 +10,7 @@ filled-requires : tie.Need-filled-requires
 filled-requires c κs = search rules
 
 returns : tie.Need-returns
-returns c = fresh-many c.filled.ensures (omega arith)
+returns c = fresh_many c.filled.ensures (omega arith)
 
 next-module-slot-requires : tie.Need-next-module-slot-requires
 next-module-slot-requires c κs = search rules
@@ -37,10 +37,10 @@ same-length-3 : tie.Need-same-length-3
 same-length-3 c = search rules
 
 returns-2 : tie.Need-returns-2
-returns-2 c = module-done c.before.before.before.before.before.before.before.before.before.before.before.before.next-module-slot.result c.before.before.before.before.before.before.before.before.before.before.before.before.before.before.before.before.before.requires.0 (omega arith) c.before.before.before.before.before.before.before.before.before.before.before.before.next-module-slot.ensures c.before.before.before.before.before.before.before.before.before.before.put-binding.ensures c.before.before.before.before.before.before.put-answer.ensures c.before.before.put-known.ensures
+returns-2 c = module_done c.before.before.before.before.before.before.before.before.before.before.before.before.next-module-slot.result c.before.before.before.before.before.before.before.before.before.before.before.before.before.before.before.before.before.requires.0 (omega arith) c.before.before.before.before.before.before.before.before.before.before.before.before.next-module-slot.ensures c.before.before.before.before.before.before.before.before.before.before.put-binding.ensures c.before.before.before.before.before.before.put-answer.ensures c.before.before.put-known.ensures
 
-pub new-module-spec : {M : Type 1} → statement M
-new-module-spec =
+pub new_module_spec : {M : Type 1} → statement M
+new_module_spec =
     tie.close
     (tie.spec
     filled-requires

@@ -23,5 +23,5 @@ returns-3 c =
 returns-4 : tie.Need-returns-4
 returns-4 c = rw (c.before.before.before.if1.false, sym c.before.before.hidden.ensures ∙ c.before.if2.false, c.if3.false) refl
 
-pub visibility-spec : {M : Type 1} → statement M
-visibility-spec = tie.close (tie.spec returns hidden-requires returns-2 load-shown-requires returns-3 returns-4)
+pub visibility_spec : {M : Type 1} → statement M
+visibility_spec = tie.close (tie.spec returns hidden-requires returns-2 load-shown-requires returns-3 returns-4)

@@ -7,7 +7,7 @@ use borrow.Author.Rules.{rules}
 use borrow.Fn.Kinds.{In}
 use borrow.Fn.PlainCycle.{Measures, is, falls, and}
 use Rattle.text.specs.Bytes.{decimal-small, decimal_step}
-use Rattle.text.specs.Laws.{puts_then, puts-text}
+use Rattle.text.specs.Laws.{puts_then, puts_text}
 use Rattle.text.proofs.put_decimal.Reads as put-decimal
 use Rattle.text.proofs.put_decimal.Kinds as put-decimal-kinds
 use Rattle.text.proofs.+put_decimal.Lts-put_decimal as put-decimal-lts
@@ -40,7 +40,7 @@ same_length : (t : ℕ) → put-decimal-lts.Need-same-length (calls t) (at t) pu
 same_length t c = c.before.before.put.ensures.long
 
 returns : (t : ℕ) → put-decimal-lts.Need-returns (calls t) (at t) put-decimal.Post
-returns t c = puts-text c.before.before.put.ensures (sym (decimal-small c.before.before.before.before.before.before.args.n c.before.before.before.before.if1.true))
+returns t c = puts_text c.before.before.put.ensures (sym (decimal-small c.before.before.before.before.before.before.args.n c.before.before.before.before.if1.true))
 
 put-decimal-requires : (t : ℕ) → put-decimal-lts.Need-put-decimal-requires (calls t) (at t) put-decimal.Post
 put-decimal-requires t c κs = (omega (arith, c.before.before.before.requires.0), tt)
@@ -58,7 +58,7 @@ same-length-2 : (t : ℕ) → put-decimal-lts.Need-same-length-2 (calls t) (at t
 same-length-2 t c = search rules
 
 returns-2 : (t : ℕ) → put-decimal-lts.Need-returns-2 (calls t) (at t) put-decimal.Post
-returns-2 t c = puts-text (puts_then c.before.before.before.before.before.before.put-decimal.ensures c.before.before.put2.ensures) (sym (decimal_step c.before.before.before.before.before.before.before.before.before.before.args.n c.before.before.before.before.before.before.before.before.if1.false))
+returns-2 t c = puts_text (puts_then c.before.before.before.before.before.before.put-decimal.ensures c.before.before.put2.ensures) (sym (decimal_step c.before.before.before.before.before.before.before.before.before.before.args.n c.before.before.before.before.before.before.before.before.if1.false))
 
 pub +put-decimal-spec : {M : Type 1} → statement M
 +put-decimal-spec = close μ-put-decimal λ t. put-decimal-lts.spec (calls t) (at t) put-decimal.Post

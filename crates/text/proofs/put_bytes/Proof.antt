@@ -5,7 +5,7 @@ use mathlib.Core.List.{[], ◌∷◌}
 use native.Mathlib.Omega.{arith}
 use lib.ListN.{length, get_or}
 use Rattle.text.specs.Window.{Rows}
-use Rattle.text.specs.Laws.{rows_none, rows_more, rows-bytes}
+use Rattle.text.specs.Laws.{rows_none, rows_more, rows_bytes}
 use Rattle.text.proofs.Byte.{passed, ended, kept}
 use Rattle.text.proofs.put_bytes.Statement.{statement}
 use Rattle.text.proofs.put_bytes.Tie as tie
@@ -47,10 +47,10 @@ same_length : tie.Need-same-length invariant-loop decreases-loop
 same_length c = c.before.loop.invariant.1.puts.long
 
 returns-3 : tie.Need-returns-3 invariant-loop decreases-loop
-returns-3 c = rows-bytes c.before.loop.invariant.1 c.before.loop.invariant.0 c.loop-test.false
+returns-3 c = rows_bytes c.before.loop.invariant.1 c.before.loop.invariant.0 c.loop-test.false
 
-pub put-bytes-spec : {M : Type 1} → statement M
-put-bytes-spec =
+pub put_bytes_spec : {M : Type 1} → statement M
+put_bytes_spec =
     tie.close
     (tie.spec
     invariant-loop

@@ -11,5 +11,5 @@ follow-requires c κs = search rules
 returns : tie.Need-returns
 returns c = ap home_of c.before.before.follow.ensures
 
-pub home-of-spec : {M : Type 1} → statement M
-home-of-spec = tie.close (tie.spec follow-requires returns)
+pub home_of_spec : {M : Type 1} → statement M
+home_of_spec = tie.close (tie.spec follow-requires returns)

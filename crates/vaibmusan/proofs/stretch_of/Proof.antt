@@ -4,9 +4,9 @@ use mathlib.Core.Path.{ap, ap₂, ◌∙◌}
 use mathlib.Core.List.{List}
 use native.Mathlib.Omega.{arith}
 use lib.ListN.{length}
-use Rattle.nodefile.specs.Lists.{nameOff}
+use Rattle.nodefile.specs.Lists.{name_off}
 use borrow.Author.Rules.{rules}
-use Rattle.vaibmusan.proofs.Found.{found, stands, stands-nowhere}
+use Rattle.vaibmusan.proofs.Found.{found, stands, stands_nowhere}
 use Rattle.vaibmusan.proofs.stretch_of.Statement.{statement}
 use Rattle.vaibmusan.proofs.stretch_of.Tie as tie
 
@@ -14,7 +14,7 @@ spelling-requires : tie.Need-spelling-requires
 spelling-requires c κs = search rules
 
 returns : tie.Need-returns
-returns c = stands-nowhere c.before.spelling.ensures c.if1.true
+returns c = stands_nowhere c.before.spelling.ensures c.if1.true
 
 names-requires : tie.Need-names-requires
 names-requires c κs = search rules
@@ -35,10 +35,10 @@ returns-2 : tie.Need-returns-2
 returns-2 c =
     let bs = c.before.before.before.before.before.before.args.file.now in
     let name = c.before.before.before.before.before.before.args.name in
-    stands c.before.before.before.before.spelling.ensures c.before.before.before.if1.false (ap₂ (λ (n o : ℕ). length bs - n + o) (ap length c.before.pool.ensures) (c.name-offset.ensures.is ∙ ap (λ (nm : List ℕ). nameOff nm name) c.before.before.names.ensures))
+    stands c.before.before.before.before.spelling.ensures c.before.before.before.if1.false (ap₂ (λ (n o : ℕ). length bs - n + o) (ap length c.before.pool.ensures) (c.name-offset.ensures.is ∙ ap (λ (nm : List ℕ). name_off nm name) c.before.before.names.ensures))
 
-pub stretch-of-spec : {M : Type 1} → statement M
-stretch-of-spec =
+pub stretch_of_spec : {M : Type 1} → statement M
+stretch_of_spec =
     tie.close
     (tie.spec
     spelling-requires

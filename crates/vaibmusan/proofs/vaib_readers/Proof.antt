@@ -66,7 +66,7 @@ Called 𝓛 at_mem run = triple_of 𝓛 callee.signature (callee.spec 𝓛 at_me
 abbrev slice : Bor (List ℕ) → Val
 slice s = slice_val s.ref_ptr (length s.now)
 
-module _ {M : Type 1} {𝓤 : Ura M} (𝓛 : Logic 𝓤) (at_mem : Memory → SProp 𝓤) (run : Routine → Fun 𝓤) (κ₀ κ₁ κ₂ κ₃ κ₄ κ₅ κ₆ κ₇ κ₈ κ₉ κ₁₀ κ₁₁ κ₁₂ κ₁₃ κ₁₄ : Lft) (q₀ q₁ q₂ q₃ q₄ q₅ q₆ q₇ q₈ q₉ q₁₀ q₁₁ q₁₂ q₁₃ q₁₄ : Share) (file nodes bindings entries scopes slots copies errors starts counts list global-starts global-counts global-list : MutBor (List ℕ)) (b o : ℕ) (γ : GName) (h : Answer) where
+module _ {M : Type 1} {𝓤 : Ura M} (𝓛 : Logic 𝓤) (at_mem : Memory → SProp 𝓤) (run : Routine → Fun 𝓤) (κ₀ κ₁ κ₂ κ₃ κ₄ κ₅ κ₆ κ₇ κ₈ κ₉ κ₁₀ κ₁₁ κ₁₂ κ₁₃ κ₁₄ : Lft) (q₀ q₁ q₂ q₃ q₄ q₅ q₆ q₇ q₈ q₉ q₁₀ q₁₁ q₁₂ q₁₃ q₁₄ : Share) (file nodes bindings entries scopes slots copies errors starts counts list global_starts global_counts global_list : MutBor (List ℕ)) (b o : ℕ) (γ : GName) (h : Answer) where
   -- the lifetimes, their shares, the arguments and the machine values that are passed on, and all of them
   open 𝓛 use {H}
 
@@ -83,16 +83,16 @@ module _ {M : Type 1} {𝓤 : Ura M} (𝓛 : Logic 𝓤) (at_mem : Memory → SP
   qs' = (q₀, (q₁, (q₂, (q₃, (q₄, (q₅, (q₆, (q₇, (q₈, (q₉, (q₁₀, (q₁₁, (q₁₂, (q₁₃, (q₁₄, tt)))))))))))))))
 
   abbrev a : Args callee.signature κs
-  a = (file, (nodes, (bindings, (entries, (scopes, (slots, (copies, (errors, (starts, (counts, (list, (global-starts, (global-counts, (global-list, tt))))))))))))))
+  a = (file, (nodes, (bindings, (entries, (scopes, (slots, (copies, (errors, (starts, (counts, (list, (global_starts, (global_counts, (global_list, tt))))))))))))))
 
   abbrev a' : Args f.signature κs'
-  a' = (file, (nodes, (bindings, (entries, (scopes, (slots, (copies, (errors, (starts, (counts, (list, (global-starts, (global-counts, (global-list, (record { ref_ptr = (b, o); ghost_name = γ; now = h }, tt)))))))))))))))
+  a' = (file, (nodes, (bindings, (entries, (scopes, (slots, (copies, (errors, (starts, (counts, (list, (global_starts, (global_counts, (global_list, (record { ref_ptr = (b, o); ghost_name = γ; now = h }, tt)))))))))))))))
 
   abbrev at : Vals callee.signature κs
-  at = (slice file ∷ [], (slice nodes ∷ [], (slice bindings ∷ [], (slice entries ∷ [], (slice scopes ∷ [], (slice slots ∷ [], (slice copies ∷ [], (slice errors ∷ [], (slice starts ∷ [], (slice counts ∷ [], (slice list ∷ [], (slice global-starts ∷ [], (slice global-counts ∷ [], (slice global-list ∷ [], tt))))))))))))))
+  at = (slice file ∷ [], (slice nodes ∷ [], (slice bindings ∷ [], (slice entries ∷ [], (slice scopes ∷ [], (slice slots ∷ [], (slice copies ∷ [], (slice errors ∷ [], (slice starts ∷ [], (slice counts ∷ [], (slice list ∷ [], (slice global_starts ∷ [], (slice global_counts ∷ [], (slice global_list ∷ [], tt))))))))))))))
 
   abbrev at' : Vals f.signature κs'
-  at' = (slice file ∷ [], (slice nodes ∷ [], (slice bindings ∷ [], (slice entries ∷ [], (slice scopes ∷ [], (slice slots ∷ [], (slice copies ∷ [], (slice errors ∷ [], (slice starts ∷ [], (slice counts ∷ [], (slice list ∷ [], (slice global-starts ∷ [], (slice global-counts ∷ [], (slice global-list ∷ [], (vptr b o ∷ [], tt)))))))))))))))
+  at' = (slice file ∷ [], (slice nodes ∷ [], (slice bindings ∷ [], (slice entries ∷ [], (slice scopes ∷ [], (slice slots ∷ [], (slice copies ∷ [], (slice errors ∷ [], (slice starts ∷ [], (slice counts ∷ [], (slice list ∷ [], (slice global_starts ∷ [], (slice global_counts ∷ [], (slice global_list ∷ [], (vptr b o ∷ [], tt)))))))))))))))
 
   abbrev to : (Called 𝓛 at_mem run).Ghost
   to = ((κs, qs, tt, a, at), tt)
@@ -137,12 +137,12 @@ module _ {M : Type 1} {𝓤 : Ura M} (𝓛 : Logic 𝓤) (at_mem : Memory → SP
 
   -- what `readers::readers` says of its answer and of the buffers' last elements
   abbrev Said : Answer → Lasts callee.ended κs a → Type 0
-  Said r zs = Readers file.now (buffers nodes.now bindings.now entries.now scopes.now slots.now copies.now errors.now) (lists starts.now counts.now list.now global-starts.now global-counts.now global-list.now) r (buffers zs.1.0 zs.1.1.0 zs.1.1.1.0 zs.1.1.1.1.0 zs.1.1.1.1.1.0 zs.1.1.1.1.1.1.0 zs.1.1.1.1.1.1.1.0) (lists zs.1.1.1.1.1.1.1.1.0 zs.1.1.1.1.1.1.1.1.1.0 zs.1.1.1.1.1.1.1.1.1.1.0 zs.1.1.1.1.1.1.1.1.1.1.1.0 zs.1.1.1.1.1.1.1.1.1.1.1.1.0 zs.1.1.1.1.1.1.1.1.1.1.1.1.1.0)
+  Said r zs = Readers file.now (buffers nodes.now bindings.now entries.now scopes.now slots.now copies.now errors.now) (lists starts.now counts.now list.now global_starts.now global_counts.now global_list.now) r (buffers zs.1.0 zs.1.1.0 zs.1.1.1.0 zs.1.1.1.1.0 zs.1.1.1.1.1.0 zs.1.1.1.1.1.1.0 zs.1.1.1.1.1.1.1.0) (lists zs.1.1.1.1.1.1.1.1.0 zs.1.1.1.1.1.1.1.1.1.0 zs.1.1.1.1.1.1.1.1.1.1.0 zs.1.1.1.1.1.1.1.1.1.1.1.0 zs.1.1.1.1.1.1.1.1.1.1.1.1.0 zs.1.1.1.1.1.1.1.1.1.1.1.1.1.0)
 
   abbrev Last : Lasts callee.ended κs a → Item 𝓤
-  Last zs = ‵ (finally u32 global-list.name zs.1.1.1.1.1.1.1.1.1.1.1.1.1.0) ⊛ ‵ (finally u32 global-counts.name zs.1.1.1.1.1.1.1.1.1.1.1.1.0) ⊛ ‵ (finally u32 global-starts.name zs.1.1.1.1.1.1.1.1.1.1.1.0) ⊛ ‵ (finally u32 list.name zs.1.1.1.1.1.1.1.1.1.1.0) ⊛ ‵ (finally u32 counts.name zs.1.1.1.1.1.1.1.1.1.0) ⊛ ‵ (finally u32 starts.name zs.1.1.1.1.1.1.1.1.0) ⊛ ‵ (finally u32 errors.name zs.1.1.1.1.1.1.1.0) ⊛ ‵ (finally u32 copies.name zs.1.1.1.1.1.1.0) ⊛ ‵ (finally u32 slots.name zs.1.1.1.1.1.0) ⊛ ‵ (finally u32 scopes.name zs.1.1.1.1.0) ⊛ ‵ (finally u32 entries.name zs.1.1.1.0) ⊛ ‵ (finally u64 bindings.name zs.1.1.0) ⊛ ‵ (finally u32 nodes.name zs.1.0)
+  Last zs = ‵ (finally u32 global_list.name zs.1.1.1.1.1.1.1.1.1.1.1.1.1.0) ⊛ ‵ (finally u32 global_counts.name zs.1.1.1.1.1.1.1.1.1.1.1.1.0) ⊛ ‵ (finally u32 global_starts.name zs.1.1.1.1.1.1.1.1.1.1.1.0) ⊛ ‵ (finally u32 list.name zs.1.1.1.1.1.1.1.1.1.1.0) ⊛ ‵ (finally u32 counts.name zs.1.1.1.1.1.1.1.1.1.0) ⊛ ‵ (finally u32 starts.name zs.1.1.1.1.1.1.1.1.0) ⊛ ‵ (finally u32 errors.name zs.1.1.1.1.1.1.1.0) ⊛ ‵ (finally u32 copies.name zs.1.1.1.1.1.1.0) ⊛ ‵ (finally u32 slots.name zs.1.1.1.1.1.0) ⊛ ‵ (finally u32 scopes.name zs.1.1.1.1.0) ⊛ ‵ (finally u32 entries.name zs.1.1.1.0) ⊛ ‵ (finally u64 bindings.name zs.1.1.0) ⊛ ‵ (finally u32 nodes.name zs.1.0)
 
-  exits : (r : Answer) (zs : Lasts callee.ended κs a) → Said r zs → length zs.1.0 ≡ length nodes.now → length zs.1.1.0 ≡ length bindings.now → length zs.1.1.1.0 ≡ length entries.now → length zs.1.1.1.1.0 ≡ length scopes.now → length zs.1.1.1.1.1.0 ≡ length slots.now → length zs.1.1.1.1.1.1.0 ≡ length copies.now → length zs.1.1.1.1.1.1.1.0 ≡ length errors.now → length zs.1.1.1.1.1.1.1.1.0 ≡ length starts.now → length zs.1.1.1.1.1.1.1.1.1.0 ≡ length counts.now → length zs.1.1.1.1.1.1.1.1.1.1.0 ≡ length list.now → length zs.1.1.1.1.1.1.1.1.1.1.1.0 ≡ length global-starts.now → length zs.1.1.1.1.1.1.1.1.1.1.1.1.0 ≡ length global-counts.now → length zs.1.1.1.1.1.1.1.1.1.1.1.1.1.0 ≡ length global-list.now
+  exits : (r : Answer) (zs : Lasts callee.ended κs a) → Said r zs → length zs.1.0 ≡ length nodes.now → length zs.1.1.0 ≡ length bindings.now → length zs.1.1.1.0 ≡ length entries.now → length zs.1.1.1.1.0 ≡ length scopes.now → length zs.1.1.1.1.1.0 ≡ length slots.now → length zs.1.1.1.1.1.1.0 ≡ length copies.now → length zs.1.1.1.1.1.1.1.0 ≡ length errors.now → length zs.1.1.1.1.1.1.1.1.0 ≡ length starts.now → length zs.1.1.1.1.1.1.1.1.1.0 ≡ length counts.now → length zs.1.1.1.1.1.1.1.1.1.1.0 ≡ length list.now → length zs.1.1.1.1.1.1.1.1.1.1.1.0 ≡ length global_starts.now → length zs.1.1.1.1.1.1.1.1.1.1.1.1.0 ≡ length global_counts.now → length zs.1.1.1.1.1.1.1.1.1.1.1.1.1.0 ≡ length global_list.now
       → ent 𝓤 (⋆ 𝓛 (‵ (fobs γ ((T.the_row).coded.code r)) ∷ ‵ (fbor κ₁₄ (Body (mem T.the_row) b o γ)) ∷ ‵ (flft κ₁₄ q₁₄) ∷ Tokens ∷ ‵ File ∷ Last zs ∷ [])) (Post vunit)
   exits r zs e l₁ l₂ l₃ l₄ l₅ l₆ l₇ l₈ l₉ l₁₀ l₁₁ l₁₂ l₁₃ =
       qed 𝓛 (‵ (fobs γ ((T.the_row).coded.code r)) ∷ ‵ (fbor κ₁₄ (Body (mem T.the_row) b o γ)) ∷ ‵ (flft κ₁₄ q₁₄) ∷ Tokens ∷ ‵ File ∷ Last zs ∷ []) ∵
@@ -155,10 +155,10 @@ module _ {M : Type 1} {𝓤 : Ura M} (𝓛 : Logic 𝓤) (at_mem : Memory → SP
       move ! (2 ∷ 0 ∷ []) $ split ! $ move ! (0 ∷ 2 ∷ []) $ fjoin ! $ move ! (1 ∷ []) $ split ! $ move ! (0 ∷ 2 ∷ []) $ fjoin ! $ move ! (1 ∷ []) $ split ! $ move ! (0 ∷ 2 ∷ []) $ fjoin ! $ move ! (1 ∷ []) $ split ! $ move ! (0 ∷ 2 ∷ []) $ fjoin ! $ move ! (1 ∷ []) $ split ! $ move ! (0 ∷ 2 ∷ []) $ fjoin ! $ move ! (1 ∷ []) $ split ! $ move ! (0 ∷ 2 ∷ []) $ fjoin ! $ move ! (1 ∷ []) $ split ! $ move ! (0 ∷ 2 ∷ []) $ fjoin ! $ move ! (1 ∷ []) $ split ! $ move ! (0 ∷ 2 ∷ []) $ fjoin ! $ move ! (1 ∷ []) $ split ! $ move ! (0 ∷ 2 ∷ []) $ fjoin ! $ move ! (1 ∷ []) $ split ! $ move ! (0 ∷ 2 ∷ []) $ fjoin ! $ move ! (1 ∷ []) $ split ! $ move ! (0 ∷ 2 ∷ []) $ fjoin ! $ move ! (1 ∷ []) $ split ! $ move ! (0 ∷ 2 ∷ []) $ fjoin ! $ move ! (1 ∷ 0 ∷ []) $ fjoin ! $ move ! (1 ∷ 0 ∷ []) $ fjoin ! $
       feq_i ! (List Val) (vunit ∷ []) (vunit ∷ []) refl $ move ! (1 ∷ 0 ∷ []) $ done !
 
-  module _ (file-room : Room u8 (length file.now)) (nodes-room : Room u32 (length nodes.now)) (bindings-room : Room u64 (length bindings.now)) (entries-room : Room u32 (length entries.now)) (scopes-room : Room u32 (length scopes.now)) (slots-room : Room u32 (length slots.now)) (copies-room : Room u32 (length copies.now)) (errors-room : Room u32 (length errors.now)) (starts-room : Room u32 (length starts.now)) (counts-room : Room u32 (length counts.now)) (list-room : Room u32 (length list.now)) (global-starts-room : Room u32 (length global-starts.now)) (global-counts-room : Room u32 (length global-counts.now)) (global-list-room : Room u32 (length global-list.now)) where
-    walk : (C : Calls 𝓤 H) (Λ : Loops 𝓤 H) (fm : FmC 𝓤 H 𝓛.laws C) (known : Triple 𝓤 (C #readers·readers) (Called 𝓛 at_mem run)) → ent 𝓤 Entry (WpFn 𝓤 H C Λ code.function (slice file ∷ slice nodes ∷ slice bindings ∷ slice entries ∷ slice scopes ∷ slice slots ∷ slice copies ∷ slice errors ∷ slice starts ∷ slice counts ∷ slice list ∷ slice global-starts ∷ slice global-counts ∷ slice global-list ∷ vptr b o ∷ []) Post)
+  module _ (file-room : Room u8 (length file.now)) (nodes-room : Room u32 (length nodes.now)) (bindings-room : Room u64 (length bindings.now)) (entries-room : Room u32 (length entries.now)) (scopes-room : Room u32 (length scopes.now)) (slots-room : Room u32 (length slots.now)) (copies-room : Room u32 (length copies.now)) (errors-room : Room u32 (length errors.now)) (starts-room : Room u32 (length starts.now)) (counts-room : Room u32 (length counts.now)) (list-room : Room u32 (length list.now)) (global-starts-room : Room u32 (length global_starts.now)) (global-counts-room : Room u32 (length global_counts.now)) (global-list-room : Room u32 (length global_list.now)) where
+    walk : (C : Calls 𝓤 H) (Λ : Loops 𝓤 H) (fm : FmC 𝓤 H 𝓛.laws C) (known : Triple 𝓤 (C #readers·readers) (Called 𝓛 at_mem run)) → ent 𝓤 Entry (WpFn 𝓤 H C Λ code.function (slice file ∷ slice nodes ∷ slice bindings ∷ slice entries ∷ slice scopes ∷ slice slots ∷ slice copies ∷ slice errors ∷ slice starts ∷ slice counts ∷ slice list ∷ slice global_starts ∷ slice global_counts ∷ slice global_list ∷ vptr b o ∷ []) Post)
     walk C Λ fm known =
-        qed 𝓛 (raw Entry ∷ []) ∵ enter ! C Λ code.function (slice file ∷ slice nodes ∷ slice bindings ∷ slice entries ∷ slice scopes ∷ slice slots ∷ slice copies ∷ slice errors ∷ slice starts ∷ slice counts ∷ slice list ∷ slice global-starts ∷ slice global-counts ∷ slice global-list ∷ vptr b o ∷ []) _ $
+        qed 𝓛 (raw Entry ∷ []) ∵ enter ! C Λ code.function (slice file ∷ slice nodes ∷ slice bindings ∷ slice entries ∷ slice scopes ∷ slice slots ∷ slice copies ∷ slice errors ∷ slice starts ∷ slice counts ∷ slice list ∷ slice global_starts ∷ slice global_counts ∷ slice global_list ∷ vptr b o ∷ []) _ $
         alloc1 ! (λ l₀. alloc1 ! (λ l₁. alloc1 ! (λ l₂. alloc1 ! (λ l₃. alloc1 ! (λ l₄. alloc1 ! (λ l₅. alloc1 ! (λ l₆. alloc1 ! (λ l₇. alloc1 ! (λ l₈. alloc1 ! (λ l₉. alloc1 ! (λ l₁₀. alloc1 ! (λ l₁₁. alloc1 ! (λ l₁₂. alloc1 ! (λ l₁₃. alloc1 ! (λ l₁₄. alloc1 ! (λ l₁₅. alloc1 ! (λ l₁₆. alloc1 ! (λ l₁₇. alloc1 ! (λ l₁₈. alloc1 ! (λ l₁₉. alloc1 ! (λ l₂₀. alloc1 ! (λ l₂₁. alloc1 ! (λ l₂₂. alloc1 ! (λ l₂₃. alloc1 ! (λ l₂₄. alloc1 ! (λ l₂₅. alloc1 ! (λ l₂₆. alloc1 ! (λ l₂₇. alloc1 ! (λ l₂₈. alloc1 ! (λ l₂₉. alloc1 ! (λ l₃₀. alloc1 ! (λ l₃₁. alloc1 ! (λ l₃₂. alloc1 ! (λ l₃₃. alloc1 ! (λ l₃₄. alloc1 ! (λ l₃₅. alloc1 ! (λ l₃₆. alloc1 ! (λ l₃₇. alloc1 ! (λ l₃₈. alloc1 ! (λ l₃₉. alloc1 ! (λ l₄₀. alloc1 ! (λ l₄₁. alloc1 ! (λ l₄₂. alloc0 ! $ params1 ! $
         pass1 ! (init ! 82 refl (tt, (tt, (record { fits = file-room.0 }, tt)))) $ pass1 ! (init ! 80 refl (tt, (tt, (record { fits = nodes-room.0 }, tt)))) $ pass1 ! (init ! 78 refl (tt, (tt, (record { fits = bindings-room.0 }, tt)))) $ pass1 ! (init ! 76 refl (tt, (tt, (record { fits = entries-room.0 }, tt)))) $ pass1 ! (init ! 74 refl (tt, (tt, (record { fits = scopes-room.0 }, tt)))) $ pass1 ! (init ! 72 refl (tt, (tt, (record { fits = slots-room.0 }, tt)))) $ pass1 ! (init ! 70 refl (tt, (tt, (record { fits = copies-room.0 }, tt)))) $ pass1 ! (init ! 68 refl (tt, (tt, (record { fits = errors-room.0 }, tt)))) $ pass1 ! (init ! 66 refl (tt, (tt, (record { fits = starts-room.0 }, tt)))) $ pass1 ! (init ! 64 refl (tt, (tt, (record { fits = counts-room.0 }, tt)))) $ pass1 ! (init ! 62 refl (tt, (tt, (record { fits = list-room.0 }, tt)))) $ pass1 ! (init ! 60 refl (tt, (tt, (record { fits = global-starts-room.0 }, tt)))) $ pass1 ! (init ! 58 refl (tt, (tt, (record { fits = global-counts-room.0 }, tt)))) $ pass1 ! (init ! 56 refl (tt, (tt, (record { fits = global-list-room.0 }, tt)))) $ pass1 ! (init ! 54 refl (tt, tt)) $ pass0 ! $
         -- [room for _42; …; room for _16; …; _15; …; _1; …; room for _0; …; what is had at entry]: each buffer is lent whole
@@ -231,9 +231,9 @@ meets {𝓤 = 𝓤} 𝓛 at_mem run 𝓣 known =
     walk_Meets 𝓛 f.ended stayed (goes 𝓛 at_mem run) (f.clauses 𝓛 at_mem run)
     (WpFn 𝓤 𝓛.H 𝓣.C 𝓣.Λ code.function) (WpFn-mono 𝓤 𝓛.H 𝓛.laws 𝓣 code.function) (walks 𝓛 at_mem run 𝓣.C 𝓣.Λ (fm_of 𝓤 𝓛.H 𝓛.laws 𝓣) known)
 
-pub vaib-readers-spec : {M : Type 1} → stated.statement M
+pub vaib_readers_spec : {M : Type 1} → stated.statement M
 unfolding code.routine tables_of
-vaib-readers-spec 𝓤 𝓛 𝓜 𝓡 =
+vaib_readers_spec 𝓤 𝓛 𝓜 𝓡 =
     entered 𝓤 𝓛.H (triple_of 𝓛 f.signature (f.spec 𝓛 𝓜.mem 𝓡.run))
     (tables 𝓤 𝓛.H 𝓜 𝓡 code.env).C (tables 𝓤 𝓛.H 𝓜 𝓡 code.env).Λ #vaibmusan·vaib-readers code.function (code.unfolded 𝓤 𝓛.H 𝓜 𝓡)
     (meets 𝓛 𝓜.mem 𝓡.run (tables_of 𝓤 𝓛.H 𝓜 (tables 𝓤 𝓛.H 𝓜 𝓡 code.env))

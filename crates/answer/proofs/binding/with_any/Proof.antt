@@ -1,6 +1,6 @@
 -- `with_any` meets its contract: the field's part of the number is exchanged.
 use native.Mathlib.Omega.{arith}
-use Rattle.answer.specs.Records.{bindingWidths}
+use Rattle.answer.specs.Records.{binding_widths}
 use Rattle.answer.specs.Laws.{changed-is}
 use borrow.Author.Rules.{rules}
 use Rattle.answer.proofs.binding.with_any.Statement.{statement}
@@ -22,8 +22,8 @@ add-result : tie.Need-overflow-add-result
 add-result c = search rules
 
 returns : tie.Need-returns
-returns c = changed-is bindingWidths 4 c.before.args.v c.before.args.r (omega arith) _ c.any.result c.any.ensures.is (omega arith) (omega (arith, c.any.ensures.below))
+returns c = changed-is binding_widths 4 c.before.args.v c.before.args.r (omega arith) _ c.any.result c.any.ensures.is (omega arith) (omega (arith, c.any.ensures.below))
 
-pub with-any-spec : {M : Type 1} → statement M
-with-any-spec =
+pub with_any_spec : {M : Type 1} → statement M
+with_any_spec =
     tie.close (tie.spec any-requires mul-result sub-result mul-result-2 add-result returns)

@@ -5,7 +5,7 @@ use mathlib.Core.Path.{ap, ◌∙◌}
 use native.Mathlib.Omega.{arith}
 use Rattle.nodefile.specs.Node.{value_of}
 use Rattle.around.proofs.Read.{ended, scoped}
-use Rattle.around.proofs.Going.{Going, going_start, going-long, going-held, going-past, going_next, going-in, going_end}
+use Rattle.around.proofs.Going.{Going, going_start, going_long, going_held, going_past, going_next, going_in, going_end}
 use Rattle.around.proofs.descent.descend.Statement.{statement}
 use Rattle.around.proofs.descent.descend.Tie as tie
 
@@ -31,7 +31,7 @@ loop-less : tie.Need-loop-smaller invariant-loop decreases-loop
 loop-less c =
     let e = c.before in
     let l = e.before.before.before in
-    let z = going-past l.before.loop.invariant (omega (arith, l.loop-test.true)) e.end-in.result (ended l.before.before.before.before.args.ns.now l.before.loop.p l.before.loop.e e.before.before.node.ensures e.before.size.ensures e.end-in.ensures) in
+    let z = going_past l.before.loop.invariant (omega (arith, l.loop-test.true)) e.end-in.result (ended l.before.before.before.before.args.ns.now l.before.loop.p l.before.loop.e e.before.before.node.ensures e.before.size.ensures e.end-in.ensures) in
     omega (arith, z, l.loop-test.true)
 
 loop-again : tie.Need-loop-preserved invariant-loop decreases-loop
@@ -77,19 +77,19 @@ loop-again-2 c =
     let g = l.before.loop.invariant in
     let ns = l.before.before.before.before.args.ns.now in
     let p = l.before.loop.p in
-    going-in g (omega (arith, l.loop-test.true)) e.end-in.result (ended ns p l.before.loop.e n.node.ensures e.before.size.ensures e.end-in.ensures) i.if1.false
-    c.before.is-scope.result (scoped ns p n.node.ensures k.kind.ensures c.before.is-scope.ensures)
+    going_in g (omega (arith, l.loop-test.true)) e.end-in.result (ended ns p l.before.loop.e n.node.ensures e.before.size.ensures e.end-in.ensures) i.if1.false
+    c.before.is_scope_lem.result (scoped ns p n.node.ensures k.kind.ensures c.before.is_scope_lem.ensures)
     c.value.result (c.value.ensures.is ∙ ap value_of n.node.ensures)
-    u.push.result u.push.new.0 (u.push.ensures g.found (going-held g))
+    u.push.result u.push.new.0 (u.push.ensures g.found (going_held g))
 
 same_length : tie.Need-same-length invariant-loop decreases-loop
-same_length c = going-long c.before.loop.invariant
+same_length c = going_long c.before.loop.invariant
 
 returns : tie.Need-returns invariant-loop decreases-loop
 returns c = going_end c.before.loop.invariant (omega (arith, c.loop-test.false))
 
-pub descend-spec : {M : Type 1} → statement M
-descend-spec =
+pub descend_spec : {M : Type 1} → statement M
+descend_spec =
     tie.close
     (tie.spec
     invariant-loop

@@ -11,7 +11,7 @@ use Rattle.nodefile.proofs.node.node.Reads as node-reads
 use Rattle.nodefile.proofs.size.Reads as size-reads
 use Rattle.nodefile.proofs.value.Reads as value-reads
 use Rattle.around.proofs.Read.{ended, scoped}
-use Rattle.around.proofs.Walking.{Walking, Passed, walking_start, walking-end, walking-more, ends-past, passed-past, flat}
+use Rattle.around.proofs.Walking.{Walking, Passed, walking_start, walking_end, walking_more, ends_past, passed_past, flat}
 use Rattle.around.proofs.table.within.Reads as within
 use Rattle.around.proofs.table.within.Kinds as within-kinds
 use Rattle.around.proofs.table.+within.Lts-within as within-lts
@@ -77,16 +77,16 @@ passed t c =
     let a = l.before.before.before.before.before.args in
     record {
       here = h.choose.result;
-      own = i.is-scope.result;
+      own = i.is_scope_lem.result;
       value = v.value.result;
       last = k.choose2.result;
       mid = n.note.new.0;
       ends = ended a.ns.now l.before.loop.p a.to d.node.ensures e.before.size.ensures e.end-in.ensures;
-      here-is = h.choose.ensures;
-      own_is = scoped a.ns.now l.before.loop.p d.node.ensures i.before.kind.ensures i.is-scope.ensures;
-      value-is = v.value.ensures.is ∙ ap value_of d.node.ensures;
+      here_is = h.choose.ensures;
+      own_is = scoped a.ns.now l.before.loop.p d.node.ensures i.before.kind.ensures i.is_scope_lem.ensures;
+      value_is = v.value.ensures.is ∙ ap value_of d.node.ensures;
       noted = n.note.ensures;
-      last-is = k.choose2.ensures;
+      last_is = k.choose2.ensures;
       below = c.within.ensures;
     }
 
@@ -143,7 +143,7 @@ within-within-requires t c κs =
     let d = e.before.before in
     let l = d.before in
     let s = l.before.before.before.before.before in
-    let z = ends-past s.args.ns.now l.before.loop.p s.args.to e.end-in.result l.loop-test.true
+    let z = ends_past s.args.ns.now l.before.loop.p s.args.to e.end-in.result l.loop-test.true
     (ended s.args.ns.now l.before.loop.p s.args.to d.node.ensures e.before.size.ensures e.end-in.ensures) in
     (omega (arith, s.requires.0, l.before.before.if1.false), omega (arith, z, s.requires.1))
 
@@ -151,19 +151,19 @@ within-loop-less : (t : ℕ) → within-lts.Need-loop-smaller (within-calls t) (
 within-loop-less t c =
     let w = c.before.before in
     let l = w.before.before.before.before.before.before.before.before.before.before.before.before.before.before in
-    omega (arith, l.loop-test.true, passed-past l.loop-test.true (passed t w))
+    omega (arith, l.loop-test.true, passed_past l.loop-test.true (passed t w))
 
 within-loop-again : (t : ℕ) → within-lts.Need-loop-preserved (within-calls t) (within-at t) within.Post within-Inv-loop within-μ-loop
 within-loop-again t c =
     let w = c.before.before in
     let l = w.before.before.before.before.before.before.before.before.before.before.before.before.before.before in
-    walking-more l.loop-test.true (passed t w) l.before.before.if1.false l.before.loop.invariant
+    walking_more l.loop-test.true (passed t w) l.before.before.if1.false l.before.loop.invariant
 
 within-same-length : (t : ℕ) → within-lts.Need-same-length (within-calls t) (within-at t) within.Post within-Inv-loop within-μ-loop
 within-same-length t c = c.before.loop.invariant.long
 
 within-returns-2 : (t : ℕ) → within-lts.Need-returns-2 (within-calls t) (within-at t) within.Post within-Inv-loop within-μ-loop
-within-returns-2 t c = λ f h. walking-end c.before.loop.invariant c.loop-test.false f h
+within-returns-2 t c = λ f h. walking_end c.before.loop.invariant c.loop-test.false f h
 
 pub +within-spec : {M : Type 1} → statement M
 +within-spec = close μ-within λ t. within-lts.spec (within-calls t) (within-at t) within.Post

@@ -20,5 +20,5 @@ returns-2 : tie.Need-returns-2
 unfolding when stored
 returns-2 c = rw c.if1.false refl
 
-pub note-spec : {M : Type 1} → statement M
-note-spec = tie.close (tie.spec put-requires same_length returns returns-2)
+pub note_spec : {M : Type 1} → statement M
+note_spec = tie.close (tie.spec put-requires same_length returns returns-2)

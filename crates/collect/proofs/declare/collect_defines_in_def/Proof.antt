@@ -2,24 +2,24 @@
 use borrow.Author.Rules.{rules}
 use native.Mathlib.Omega.{arith}
 use mathlib.Core.Path.{◌∙◌}
-use Rattle.collect.proofs.Functions.{f-stop, f-few, f-pre, f-full, f-first, f-last, f-done}
+use Rattle.collect.proofs.Functions.{f_stop, f_few, f_pre, f_full, f_first, f_last, f_done}
 use Rattle.collect.proofs.declare.collect_defines_in_def.Statement.{statement}
 use Rattle.collect.proofs.declare.collect_defines_in_def.Tie as tie
 
 returns : tie.Need-returns
-returns c = f-stop c.if1.true
+returns c = f_stop c.if1.true
 
 param-count-requires : tie.Need-param-count-requires
 param-count-requires c κs = (omega (arith, c.before.before.before.before.before.before.requires.within), (c.before.before.before.before.before.before.args.at, c.before.before.before.before.before.before.requires.ghost.f, c.before.before.before.before.before.before.requires.ghost.reads))
 
 set-param-count-requires : tie.Need-set-param-count-requires
-set-param-count-requires c κs = (c.before.before.before.before.before.before.before.requires.ghost.small, f-few c.before.before.before.before.before.before.before.requires c.before.before.if1.false c.param-count.result c.param-count.ensures.0 c.param-count.ensures.1, c.before.before.before.before.before.before.before.requires.long.w)
+set-param-count-requires c κs = (c.before.before.before.before.before.before.before.requires.ghost.small, f_few c.before.before.before.before.before.before.before.requires c.before.before.if1.false c.param-count.result c.param-count.ensures.0 c.param-count.ensures.1, c.before.before.before.before.before.before.before.requires.long.w)
 
 unmarked-requires : tie.Need-unmarked-requires
 unmarked-requires c κs = search rules
 
 collect-kids-requires : tie.Need-collect-kids-requires
-collect-kids-requires c κs = f-pre c.before.before.before.before.before.before.before.before.before.before.before.before.before.before.requires c.before.before.before.before.before.before.before.before.before.if1.false c.before.before.before.before.before.before.before.param-count.result c.before.before.before.before.before.before.before.param-count.ensures.0 c.before.before.before.before.before.before.before.param-count.ensures.1 c.before.before.before.before.before.before.set-param-count.ensures
+collect-kids-requires c κs = f_pre c.before.before.before.before.before.before.before.before.before.before.before.before.before.before.requires c.before.before.before.before.before.before.before.before.before.if1.false c.before.before.before.before.before.before.before.param-count.result c.before.before.before.before.before.before.before.param-count.ensures.0 c.before.before.before.before.before.before.before.param-count.ensures.1 c.before.before.before.before.before.before.set-param-count.ensures
 
 same_length : tie.Need-same-length
 same_length c = search rules
@@ -31,10 +31,10 @@ same-length-3 : tie.Need-same-length-3
 same-length-3 c = search rules
 
 returns-2 : tie.Need-returns-2
-returns-2 c = f-full c.before.before.before.before.before.before.before.before.before.before.before.before.before.before.before.before.before.before.before.before.before.before.requires c.before.before.before.before.before.before.before.before.before.before.before.before.before.before.before.before.before.if1.false c.before.before.before.before.before.before.before.before.before.before.before.before.before.before.before.param-count.result c.before.before.before.before.before.before.before.before.before.before.before.before.before.before.before.param-count.ensures.0 c.before.before.before.before.before.before.before.before.before.before.before.before.before.before.before.param-count.ensures.1 c.before.before.before.before.before.before.before.before.before.before.before.before.before.before.set-param-count.ensures c.before.before.before.before.before.before.before.before.before.before.before.unmarked.ensures c.before.before.before.before.before.before.before.collect-kids.ensures c.if2.true
+returns-2 c = f_full c.before.before.before.before.before.before.before.before.before.before.before.before.before.before.before.before.before.before.before.before.before.before.requires c.before.before.before.before.before.before.before.before.before.before.before.before.before.before.before.before.before.if1.false c.before.before.before.before.before.before.before.before.before.before.before.before.before.before.before.param-count.result c.before.before.before.before.before.before.before.before.before.before.before.before.before.before.before.param-count.ensures.0 c.before.before.before.before.before.before.before.before.before.before.before.before.before.before.before.param-count.ensures.1 c.before.before.before.before.before.before.before.before.before.before.before.before.before.before.set-param-count.ensures c.before.before.before.before.before.before.before.before.before.before.before.unmarked.ensures c.before.before.before.before.before.before.before.collect-kids.ensures c.if2.true
 
 put-range-requires : tie.Need-put-range-requires
-put-range-requires c κs = (c.before.before.before.before.before.before.before.before.before.before.before.before.before.before.before.before.before.before.before.before.before.before.before.requires.ghost.small, f-first c.before.before.before.before.before.before.before.before.before.before.before.before.before.before.before.before.before.before.before.before.before.before.before.requires c.before.before.before.before.before.before.before.before.before.before.before.before.before.before.before.before.before.before.if1.false c.before.before.before.before.before.before.before.before.before.before.before.before.before.before.before.before.param-count.result c.before.before.before.before.before.before.before.before.before.before.before.before.before.before.before.before.param-count.ensures.0 c.before.before.before.before.before.before.before.before.before.before.before.before.before.before.before.before.param-count.ensures.1 c.before.before.before.before.before.before.before.before.before.before.before.before.before.before.before.set-param-count.ensures c.before.before.before.before.before.before.before.before.before.before.before.before.unmarked.ensures c.before.before.before.before.before.before.before.before.collect-kids.ensures c.before.if2.false, f-last c.before.before.before.before.before.before.before.before.before.before.before.before.before.before.before.before.before.before.before.before.before.before.before.requires c.before.before.before.before.before.before.before.before.before.before.before.before.before.before.before.before.before.before.if1.false c.before.before.before.before.before.before.before.before.before.before.before.before.before.before.before.before.param-count.result c.before.before.before.before.before.before.before.before.before.before.before.before.before.before.before.before.param-count.ensures.0 c.before.before.before.before.before.before.before.before.before.before.before.before.before.before.before.before.param-count.ensures.1 c.before.before.before.before.before.before.before.before.before.before.before.before.before.before.before.set-param-count.ensures c.before.before.before.before.before.before.before.before.before.before.before.before.unmarked.ensures c.before.before.before.before.before.before.before.before.collect-kids.ensures c.before.if2.false, (c.before.before.before.before.before.before.before.before.collect-kids.auto.1.1.1.1.1.1.1.0 ∙ c.before.before.before.before.before.before.before.before.before.before.before.before.before.before.before.before.before.before.before.before.before.before.before.requires.long.t))
+put-range-requires c κs = (c.before.before.before.before.before.before.before.before.before.before.before.before.before.before.before.before.before.before.before.before.before.before.before.requires.ghost.small, f_first c.before.before.before.before.before.before.before.before.before.before.before.before.before.before.before.before.before.before.before.before.before.before.before.requires c.before.before.before.before.before.before.before.before.before.before.before.before.before.before.before.before.before.before.if1.false c.before.before.before.before.before.before.before.before.before.before.before.before.before.before.before.before.param-count.result c.before.before.before.before.before.before.before.before.before.before.before.before.before.before.before.before.param-count.ensures.0 c.before.before.before.before.before.before.before.before.before.before.before.before.before.before.before.before.param-count.ensures.1 c.before.before.before.before.before.before.before.before.before.before.before.before.before.before.before.set-param-count.ensures c.before.before.before.before.before.before.before.before.before.before.before.before.unmarked.ensures c.before.before.before.before.before.before.before.before.collect-kids.ensures c.before.if2.false, f_last c.before.before.before.before.before.before.before.before.before.before.before.before.before.before.before.before.before.before.before.before.before.before.before.requires c.before.before.before.before.before.before.before.before.before.before.before.before.before.before.before.before.before.before.if1.false c.before.before.before.before.before.before.before.before.before.before.before.before.before.before.before.before.param-count.result c.before.before.before.before.before.before.before.before.before.before.before.before.before.before.before.before.param-count.ensures.0 c.before.before.before.before.before.before.before.before.before.before.before.before.before.before.before.before.param-count.ensures.1 c.before.before.before.before.before.before.before.before.before.before.before.before.before.before.before.set-param-count.ensures c.before.before.before.before.before.before.before.before.before.before.before.before.unmarked.ensures c.before.before.before.before.before.before.before.before.collect-kids.ensures c.before.if2.false, (c.before.before.before.before.before.before.before.before.collect-kids.auto.1.1.1.1.1.1.1.0 ∙ c.before.before.before.before.before.before.before.before.before.before.before.before.before.before.before.before.before.before.before.before.before.before.before.requires.long.t))
 
 same-length-4 : tie.Need-same-length-4
 same-length-4 c = search rules
@@ -46,10 +46,10 @@ same-length-6 : tie.Need-same-length-6
 same-length-6 c = search rules
 
 returns-3 : tie.Need-returns-3
-returns-3 c = f-done c.before.before.before.before.before.before.before.before.before.before.before.before.before.before.before.before.before.before.before.before.before.before.before.before.before.before.requires c.before.before.before.before.before.before.before.before.before.before.before.before.before.before.before.before.before.before.before.before.before.if1.false c.before.before.before.before.before.before.before.before.before.before.before.before.before.before.before.before.before.before.before.param-count.result c.before.before.before.before.before.before.before.before.before.before.before.before.before.before.before.before.before.before.before.param-count.ensures.0 c.before.before.before.before.before.before.before.before.before.before.before.before.before.before.before.before.before.before.before.param-count.ensures.1 c.before.before.before.before.before.before.before.before.before.before.before.before.before.before.before.before.before.before.set-param-count.ensures c.before.before.before.before.before.before.before.before.before.before.before.before.before.before.before.unmarked.ensures c.before.before.before.before.before.before.before.before.before.before.before.collect-kids.ensures c.before.before.before.before.if2.false (c.before.before.before.before.before.before.before.before.before.before.before.collect-kids.auto.1.1.1.1.1.1.1.0 ∙ c.before.before.before.before.before.before.before.before.before.before.before.before.before.before.before.before.before.before.before.before.before.before.before.before.before.before.requires.long.t) c.before.before.put-range.ensures
+returns-3 c = f_done c.before.before.before.before.before.before.before.before.before.before.before.before.before.before.before.before.before.before.before.before.before.before.before.before.before.before.requires c.before.before.before.before.before.before.before.before.before.before.before.before.before.before.before.before.before.before.before.before.before.if1.false c.before.before.before.before.before.before.before.before.before.before.before.before.before.before.before.before.before.before.before.param-count.result c.before.before.before.before.before.before.before.before.before.before.before.before.before.before.before.before.before.before.before.param-count.ensures.0 c.before.before.before.before.before.before.before.before.before.before.before.before.before.before.before.before.before.before.before.param-count.ensures.1 c.before.before.before.before.before.before.before.before.before.before.before.before.before.before.before.before.before.before.set-param-count.ensures c.before.before.before.before.before.before.before.before.before.before.before.before.before.before.before.unmarked.ensures c.before.before.before.before.before.before.before.before.before.before.before.collect-kids.ensures c.before.before.before.before.if2.false (c.before.before.before.before.before.before.before.before.before.before.before.collect-kids.auto.1.1.1.1.1.1.1.0 ∙ c.before.before.before.before.before.before.before.before.before.before.before.before.before.before.before.before.before.before.before.before.before.before.before.before.before.before.requires.long.t) c.before.before.put-range.ensures
 
-pub collect-defines-in-def-spec : {M : Type 1} → statement M
-collect-defines-in-def-spec =
+pub collect_defines_in_def_spec : {M : Type 1} → statement M
+collect_defines_in_def_spec =
     tie.close
     (tie.spec
     returns

@@ -19,10 +19,10 @@ same-length-3 : tie.Need-same-length-3
 same-length-3 c = search rules
 
 returns : tie.Need-returns
-returns c = rw c.before.before.before.before.before.before.before.before.before.before.unmarked.ensures at c.before.before.before.before.before.before.collect-node.ensures
+returns c = rw c.before.before.before.before.before.before.before.before.before.before.unmarked.ensures at c.before.before.before.before.before.before.collect_node.ensures
 
-pub collect-module-spec : {M : Type 1} → statement M
-collect-module-spec =
+pub collect_module_spec : {M : Type 1} → statement M
+collect_module_spec =
     tie.close
     (tie.spec
     unmarked-requires

@@ -23,7 +23,7 @@ same-length-2 c = search rules
 returns-2 : tie.Need-returns-2
 returns-2 c = rw (ne_eqb _ _ c.before.before.before.before.if1.false) c.before.before.put-bytes2.ensures
 
-pub put-choice-spec : {M : Type 1} → statement M
-put-choice-spec =
+pub put_choice_spec : {M : Type 1} → statement M
+put_choice_spec =
     tie.close
     (tie.spec put-bytes-requires same_length returns put-bytes-requires-2 same-length-2 returns-2)

@@ -4,8 +4,8 @@ use Prim.Native.Nat.{ℕ}
 use mathlib.Core.Path.{ap₂, ◌∙◌}
 use mathlib.Core.List.{List}
 use borrow.Author.Rules.{rules}
-use Rattle.text.specs.Laws.{puts-is}
-use Rattle.lines.specs.Lines.{nameText}
+use Rattle.text.specs.Laws.{puts_is}
+use Rattle.lines.specs.Lines.{name_text}
 use Rattle.nodefile.specs.Lists.{spelled}
 use Rattle.lines.proofs.pieces.put_name.Statement.{statement}
 use Rattle.lines.proofs.pieces.put_name.Tie as tie
@@ -26,16 +26,16 @@ same_length : tie.Need-same-length
 same_length c = search rules
 
 returns : tie.Need-returns
-unfolding nameText
+unfolding name_text
 returns c =
     let p5 = c.before.before in
     let p4 = p5.before.before in
     let p3 = p4.before in
     let p2 = p3.before in
     let p1 = p2.before.before.before in
-    puts-is p5.put-bytes.ensures (p4.spelled.ensures ∙ ap₂ (λ (nm pool : List ℕ). spelled nm pool p1.args.name) p2.names.ensures p3.pool.ensures)
+    puts_is p5.put-bytes.ensures (p4.spelled.ensures ∙ ap₂ (λ (nm pool : List ℕ). spelled nm pool p1.args.name) p2.names.ensures p3.pool.ensures)
 
-pub put-name-spec : {M : Type 1} → statement M
-put-name-spec =
+pub put_name_spec : {M : Type 1} → statement M
+put_name_spec =
     tie.close
     (tie.spec names-requires pool-requires spelled-requires put-bytes-requires same_length returns)

@@ -3,14 +3,14 @@
 use Prim.Native.Nat.{ℕ, ◌-◌, ◌≤◌}
 use native.Mathlib.Omega.{arith}
 use lib.ListN.{length, get_or}
-use Rattle.lines.specs.Lines.{bindingLine}
+use Rattle.lines.specs.Lines.{binding_line}
 use Rattle.text.specs.Window.{Rows}
 use Rattle.text.specs.Laws.{rows_none, rows_more, rows_end}
 use Rattle.listing.proofs.lists.put_bindings.Statement.{statement}
 use Rattle.listing.proofs.lists.put_bindings.Tie as tie
 
 abbrev invariant-loop : tie.invariant-loop
-invariant-loop out₀ file list k₀ i₀ out k i = (i ≤ length list) × Rows (λ (j : ℕ). bindingLine file j (get_or list j 0)) i k₀ out₀ k out
+invariant-loop out₀ file list k₀ i₀ out k i = (i ≤ length list) × Rows (λ (j : ℕ). binding_line file j (get_or list j 0)) i k₀ out₀ k out
 
 abbrev decreases-loop : tie.decreases-loop
 decreases-loop out₀ file list k₀ i₀ out k i = length list - i
@@ -42,8 +42,8 @@ same_length c = c.before.loop.invariant.1.puts.long
 returns : tie.Need-returns invariant-loop decreases-loop
 returns c = rows_end c.before.loop.invariant.1 c.before.loop.invariant.0 c.loop-test.false
 
-pub put-bindings-spec : {M : Type 1} → statement M
-put-bindings-spec =
+pub put_bindings_spec : {M : Type 1} → statement M
+put_bindings_spec =
     tie.close
     (tie.spec
     invariant-loop

@@ -4,13 +4,13 @@ use Prim.Native.Nat.{ℕ, ◌-◌, ◌≤◌}
 use native.Mathlib.Omega.{arith}
 use lib.ListN.{length, get_or}
 use Rattle.text.specs.Window.{Rows}
-use Rattle.lines.specs.Lines.{copyLine}
+use Rattle.lines.specs.Lines.{copy_line}
 use Rattle.text.specs.Laws.{rows_none, rows_more, rows_end}
 use Rattle.listing.proofs.lists.put_copies.Statement.{statement}
 use Rattle.listing.proofs.lists.put_copies.Tie as tie
 
 abbrev invariant-loop : tie.invariant-loop
-invariant-loop out₀ list k₀ i₀ out k i = (i ≤ length list) × Rows (λ (j : ℕ). copyLine (get_or list j 0)) i k₀ out₀ k out
+invariant-loop out₀ list k₀ i₀ out k i = (i ≤ length list) × Rows (λ (j : ℕ). copy_line (get_or list j 0)) i k₀ out₀ k out
 
 abbrev decreases-loop : tie.decreases-loop
 decreases-loop out₀ list k₀ i₀ out k i = length list - i
@@ -42,8 +42,8 @@ same_length c = c.before.loop.invariant.1.puts.long
 returns : tie.Need-returns invariant-loop decreases-loop
 returns c = rows_end c.before.loop.invariant.1 c.before.loop.invariant.0 c.loop-test.false
 
-pub put-copies-spec : {M : Type 1} → statement M
-put-copies-spec =
+pub put_copies_spec : {M : Type 1} → statement M
+put_copies_spec =
     tie.close
     (tie.spec
     invariant-loop

@@ -5,12 +5,12 @@ use native.Mathlib.Omega.{arith}
 use lib.ListN.{length, get_or}
 use Rattle.text.specs.Window.{Rows}
 use Rattle.text.specs.Laws.{rows_none, rows_more, rows_end}
-use Rattle.lines.specs.Lines.{entryLine}
+use Rattle.lines.specs.Lines.{entry_line}
 use Rattle.listing.proofs.lists.put_entries.Statement.{statement}
 use Rattle.listing.proofs.lists.put_entries.Tie as tie
 
 abbrev invariant-loop : tie.invariant-loop
-invariant-loop out₀ file list k₀ i₀ out k i = (i ≤ length list) × Rows (λ (j : ℕ). entryLine file (get_or list j 0)) i k₀ out₀ k out
+invariant-loop out₀ file list k₀ i₀ out k i = (i ≤ length list) × Rows (λ (j : ℕ). entry_line file (get_or list j 0)) i k₀ out₀ k out
 
 abbrev decreases-loop : tie.decreases-loop
 decreases-loop out₀ file list k₀ i₀ out k i = length list - i
@@ -42,8 +42,8 @@ same_length c = c.before.loop.invariant.1.puts.long
 returns : tie.Need-returns invariant-loop decreases-loop
 returns c = rows_end c.before.loop.invariant.1 c.before.loop.invariant.0 c.loop-test.false
 
-pub put-entries-spec : {M : Type 1} → statement M
-put-entries-spec =
+pub put_entries_spec : {M : Type 1} → statement M
+put_entries_spec =
     tie.close
     (tie.spec
     invariant-loop

@@ -17,5 +17,5 @@ returns c = search rules
 returns-2 : tie.Need-returns-2
 returns-2 c = sym (take_all _ _ c.if1.false)
 
-pub front32-spec : {M : Type 1} → statement M
-front32-spec = tie.close (tie.spec slice-aggregate-result returns returns-2)
+pub front32_spec : {M : Type 1} → statement M
+front32_spec = tie.close (tie.spec slice-aggregate-result returns returns-2)

@@ -2,7 +2,7 @@
 use Prim.Native.Nat.{ℕ, ◌<◌}
 use mathlib.Core.Path.{◌∙◌}
 use native.Mathlib.Omega.{arith}
-use Rattle.lookup.proofs.Inward.{bring-low, bring-id, bring-slots, at-hand, own-copy, own-done, outside, stopped, then-copy, then-done}
+use Rattle.lookup.proofs.Inward.{bring-low, bring_id, bring-slots, at-hand, own-copy, own_done, outside, stopped, then-copy, then_done}
 use borrow.Author.Rules.{rules}
 use borrow.Fn.Kinds.{In}
 use borrow.Fn.PlainCycle.{Measures, is, falls, and}
@@ -32,7 +32,7 @@ bring-scope-at-level-requires : (t : ℕ) → bring-lts.Need-scope-at-level-requ
 bring-scope-at-level-requires t c κs = (omega (arith, bring-low c.before.before.before.before.requires.1.1), c.before.before.before.before.requires.1.0.t)
 
 bring-hand-requires : (t : ℕ) → bring-lts.Need-hand-requires (bring-calls t) (bring-at t) bring.Post
-bring-hand-requires t c κs = let g = c.before.before.before.before.before.before.before.requires.1.1 in (bring-id g, c.before.before.before.before.before.before.before.requires.1.0.w, c.before.before.before.before.before.before.before.requires.1.0.t, bring-slots g)
+bring-hand-requires t c κs = let g = c.before.before.before.before.before.before.before.requires.1.1 in (bring_id g, c.before.before.before.before.before.before.before.requires.1.0.w, c.before.before.before.before.before.before.before.requires.1.0.t, bring-slots g)
 
 bring-enum-known-h : (t : ℕ) → bring-lts.Need-enum-known-h (bring-calls t) (bring-at t) bring.Post
 bring-enum-known-h t c = search rules
@@ -41,10 +41,10 @@ bring-enum-told : (t : ℕ) → bring-lts.Need-enum-told (bring-calls t) (bring-
 bring-enum-told t c = search rules
 
 bring-slot-of-requires : (t : ℕ) → bring-lts.Need-slot-of-requires (bring-calls t) (bring-at t) bring.Post
-bring-slot-of-requires t c κs = omega (arith, bring-id c.before.before.before.before.before.before.before.before.before.before.before.requires.1.1, c.before.before.before.before.before.before.before.before.before.before.before.requires.1.0.binds)
+bring-slot-of-requires t c κs = omega (arith, bring_id c.before.before.before.before.before.before.before.before.before.before.before.requires.1.1, c.before.before.before.before.before.before.before.before.before.before.before.requires.1.0.binds)
 
 bring-copy-parent-requires : (t : ℕ) → bring-lts.Need-copy-parent-requires (bring-calls t) (bring-at t) bring.Post
-bring-copy-parent-requires t c κs = (c.before.before.before.before.before.before.before.before.before.before.before.before.before.before.requires.1.0, own-copy c.before.before.before.before.before.before.before.before.before.scope-at-level.result c.before.before.before.before.before.before.before.before.before.scope-at-level.ensures.0 c.before.before.before.before.before.before.hand.result c.before.before.before.before.before.before.hand.ensures c.before.before.before.before.enum_told.given.1 c.before.before.before.if1.true c.before.before.slot-of.result c.before.before.slot-of.ensures.0 c.before.before.before.before.before.before.before.before.before.before.before.before.before.before.requires.1.1)
+bring-copy-parent-requires t c κs = (c.before.before.before.before.before.before.before.before.before.before.before.before.before.before.requires.1.0, own-copy c.before.before.before.before.before.before.before.before.before.scope-at-level.result c.before.before.before.before.before.before.before.before.before.scope-at-level.ensures.0 c.before.before.before.before.before.before.hand.result c.before.before.before.before.before.before.hand.ensures c.before.before.before.before.enum_told.given.1 c.before.before.before.if1.true c.before.before.slot_of_lem.result c.before.before.slot_of_lem.ensures.0 c.before.before.before.before.before.before.before.before.before.before.before.before.before.before.requires.1.1)
 
 bring-same-length : (t : ℕ) → bring-lts.Need-same-length (bring-calls t) (bring-at t) bring.Post
 bring-same-length t c = search rules
@@ -53,7 +53,7 @@ bring-same-length-2 : (t : ℕ) → bring-lts.Need-same-length-2 (bring-calls t)
 bring-same-length-2 t c = search rules
 
 bring-returns : (t : ℕ) → bring-lts.Need-returns (bring-calls t) (bring-at t) bring.Post
-bring-returns t c = own-done c.before.before.before.before.before.before.before.before.before.before.before.before.before.before.scope-at-level.result c.before.before.before.before.before.before.before.before.before.before.before.before.before.before.scope-at-level.ensures.0 c.before.before.before.before.before.before.before.before.before.before.before.hand.result c.before.before.before.before.before.before.before.before.before.before.before.hand.ensures c.before.before.before.before.before.before.before.before.before.enum_told.given.1 c.before.before.before.before.before.before.before.before.if1.true c.before.before.before.before.before.before.before.slot-of.result c.before.before.before.before.before.before.before.slot-of.ensures.0 c.before.before.before.before.copy-parent.result _ c.before.before.before.before.copy-parent.ensures
+bring-returns t c = own_done c.before.before.before.before.before.before.before.before.before.before.before.before.before.before.scope-at-level.result c.before.before.before.before.before.before.before.before.before.before.before.before.before.before.scope-at-level.ensures.0 c.before.before.before.before.before.before.before.before.before.before.before.hand.result c.before.before.before.before.before.before.before.before.before.before.before.hand.ensures c.before.before.before.before.before.before.before.before.before.enum_told.given.1 c.before.before.before.before.before.before.before.before.if1.true c.before.before.before.before.before.before.before.slot_of_lem.result c.before.before.before.before.before.before.before.slot_of_lem.ensures.0 c.before.before.before.before.copy_parent_lem.result _ c.before.before.before.before.copy_parent_lem.ensures
 
 bring-sub-bring : (t : ℕ) → bring-lts.Need-overflow-sub-bring (bring-calls t) (bring-at t) bring.Post
 bring-sub-bring t c = search rules
@@ -89,7 +89,7 @@ bring-same-length-8 : (t : ℕ) → bring-lts.Need-same-length-8 (bring-calls t)
 bring-same-length-8 t c = search rules
 
 bring-returns-4 : (t : ℕ) → bring-lts.Need-returns-4 (bring-calls t) (bring-at t) bring.Post
-bring-returns-4 t c = then-done c.before.before.before.before.before.before.before.before.before.before.before.before.before.before.before.before.before.before.before.before.before.before.before.scope-at-level.result c.before.before.before.before.before.before.before.before.before.before.before.before.before.before.before.before.before.before.before.before.before.before.before.scope-at-level.ensures.0 c.before.before.before.before.before.before.before.before.before.before.before.before.before.before.before.before.before.before.before.before.hand.result c.before.before.before.before.before.before.before.before.before.before.before.before.before.before.before.before.before.before.before.before.hand.ensures c.before.before.before.before.before.before.before.before.before.before.before.before.before.before.before.before.before.before.enum_told.given.1 c.before.before.before.before.before.before.before.before.before.before.before.before.before.before.before.before.before.if1.false c.before.before.before.before.before.before.before.before.before.before.before.before.before.before.bring.result _ c.before.before.before.before.before.before.before.before.before.before.before.before.before.before.bring.ensures c.before.before.before.before.before.before.before.before.if2.false c.before.before.before.before.copy-parent2.result _ c.before.before.before.before.copy-parent2.ensures
+bring-returns-4 t c = then_done c.before.before.before.before.before.before.before.before.before.before.before.before.before.before.before.before.before.before.before.before.before.before.before.scope-at-level.result c.before.before.before.before.before.before.before.before.before.before.before.before.before.before.before.before.before.before.before.before.before.before.before.scope-at-level.ensures.0 c.before.before.before.before.before.before.before.before.before.before.before.before.before.before.before.before.before.before.before.before.hand.result c.before.before.before.before.before.before.before.before.before.before.before.before.before.before.before.before.before.before.before.before.hand.ensures c.before.before.before.before.before.before.before.before.before.before.before.before.before.before.before.before.before.before.enum_told.given.1 c.before.before.before.before.before.before.before.before.before.before.before.before.before.before.before.before.before.if1.false c.before.before.before.before.before.before.before.before.before.before.before.before.before.before.bring.result _ c.before.before.before.before.before.before.before.before.before.before.before.before.before.before.bring.ensures c.before.before.before.before.before.before.before.before.if2.false c.before.before.before.before.copy-parent2.result _ c.before.before.before.before.copy-parent2.ensures
 
 pub +bring-spec : {M : Type 1} → statement M
 +bring-spec = close μ-bring λ t. bring-lts.spec (bring-calls t) (bring-at t) bring.Post

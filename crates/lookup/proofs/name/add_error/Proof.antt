@@ -6,7 +6,7 @@ use Rattle.lookup.proofs.name.add_error.Statement.{statement}
 use Rattle.lookup.proofs.name.add_error.Tie as tie
 
 returns : tie.Need-returns
-returns c = record { bindings-stay = refl; slots-stay = refl; copies-stay = refl; level-stays = refl; kept = λ h. absurd (omega (arith, c.if1.true)); none_left = λ _. refl }
+returns c = record { bindings_stay = refl; slots_stay = refl; copies_stay = refl; level_stays = refl; kept = λ h. absurd (omega (arith, c.if1.true)); none_left = λ _. refl }
 
 put-error-requires : tie.Need-put-error-requires
 put-error-requires c κs = search rules
@@ -18,7 +18,7 @@ same_length : tie.Need-same-length
 same_length c = search rules
 
 returns-2 : tie.Need-returns-2
-returns-2 c = record { bindings-stay = refl; slots-stay = refl; copies-stay = refl; level-stays = refl; kept = λ _. (c.before.before.put-error.ensures, refl, refl); none_left = λ h. absurd (omega (arith, c.before.before.before.before.if1.false)) }
+returns-2 c = record { bindings_stay = refl; slots_stay = refl; copies_stay = refl; level_stays = refl; kept = λ _. (c.before.before.put-error.ensures, refl, refl); none_left = λ h. absurd (omega (arith, c.before.before.before.before.if1.false)) }
 
-pub add-error-spec : {M : Type 1} → statement M
-add-error-spec = tie.close (tie.spec returns put-error-requires add-t10 same_length returns-2)
+pub add_error_spec : {M : Type 1} → statement M
+add_error_spec = tie.close (tie.spec returns put-error-requires add-t10 same_length returns-2)

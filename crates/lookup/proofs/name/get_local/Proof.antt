@@ -1,6 +1,6 @@
 -- `get_local` meets its contract: captured, then brought to the current scope.
 use mathlib.Core.Path.{refl}
-use Rattle.lookup.proofs.Locals.{to_capture, to-bring, local-refused, local-found}
+use Rattle.lookup.proofs.Locals.{to_capture, to-bring, local_refused, local_found}
 use borrow.Author.Rules.{rules}
 use Rattle.lookup.proofs.name.get_local.Statement.{statement}
 use Rattle.lookup.proofs.name.get_local.Tie as tie
@@ -21,7 +21,7 @@ same-length-3 : tie.Need-same-length-3
 same-length-3 c = search rules
 
 returns : tie.Need-returns
-returns c = local-refused _ c.before.before.before.before.before.before.before.before.before.before.before.before.before.capture-local.ensures c.before.before.before.before.before.before.before.before.before.before.before.before.before.before.before.before.before.before.before.args.ty c.before.before.before.before.before.before.before.bring.result _ c.before.before.before.before.before.before.before.bring.ensures c.if1.true
+returns c = local_refused _ c.before.before.before.before.before.before.before.before.before.before.before.before.before.capture-local.ensures c.before.before.before.before.before.before.before.before.before.before.before.before.before.before.before.before.before.before.before.args.ty c.before.before.before.before.before.before.before.bring.result _ c.before.before.before.before.before.before.before.bring.ensures c.if1.true
 
 same-length-4 : tie.Need-same-length-4
 same-length-4 c = search rules
@@ -33,10 +33,10 @@ same-length-6 : tie.Need-same-length-6
 same-length-6 c = search rules
 
 returns-2 : tie.Need-returns-2
-returns-2 c = local-found _ c.before.before.before.before.before.before.before.before.before.before.before.before.before.capture-local.ensures c.before.before.before.before.before.before.before.before.before.before.before.before.before.before.before.before.before.before.before.args.ty c.before.before.before.before.before.before.before.bring.result _ c.before.before.before.before.before.before.before.bring.ensures c.if1.false c.before.before.before.before.before.before.before.before.before.before.before.before.before.before.before.before.before.before.before.args.id refl
+returns-2 c = local_found _ c.before.before.before.before.before.before.before.before.before.before.before.before.before.capture-local.ensures c.before.before.before.before.before.before.before.before.before.before.before.before.before.before.before.before.before.before.before.args.ty c.before.before.before.before.before.before.before.bring.result _ c.before.before.before.before.before.before.before.bring.ensures c.if1.false c.before.before.before.before.before.before.before.before.before.before.before.before.before.before.before.before.before.before.before.args.id refl
 
-pub get-local-spec : {M : Type 1} → statement M
-get-local-spec =
+pub get_local_spec : {M : Type 1} → statement M
+get_local_spec =
     tie.close
     (tie.spec
     capture-local-requires

@@ -28,8 +28,8 @@ same-length-2 c = search rules
 returns-2 : tie.Need-returns-2
 returns-2 c = rw c.before.before.before.before.before.slot2.given.1 c.before.before.put-answer2.ensures
 
-pub put-slot-spec : {M : Type 1} → statement M
-put-slot-spec =
+pub put_slot_spec : {M : Type 1} → statement M
+put_slot_spec =
     tie.close
     (tie.spec
     enum-known-slot

@@ -2,7 +2,7 @@
 use Prim.Native.Nat.{◌-◌, ◌≤◌}
 use native.Mathlib.Omega.{arith}
 use Rattle.names.specs.Inside.Line.{line_of}
-use Rattle.names.proofs.Lines.{Lines, lines_none, lines_more, lines-twice, lines-all, lines-unknown}
+use Rattle.names.proofs.Lines.{Lines, lines_none, lines_more, lines_twice, lines_all, lines_unknown}
 use Rattle.names.proofs.lists.bad_list.Statement.{statement}
 use Rattle.names.proofs.lists.bad_list.Tie as tie
 
@@ -19,13 +19,13 @@ line-requires : tie.Need-line-requires invariant-loop decreases-loop
 line-requires c κs = omega arith
 
 returns : tie.Need-returns invariant-loop decreases-loop
-returns c = lines-unknown _ c.before.before.before.loop.k _ c.before.line.ensures (omega arith) (omega arith)
+returns c = lines_unknown _ c.before.before.before.loop.k _ c.before.line.ensures (omega arith) (omega arith)
 
 array-read-if2 : tie.Need-array-read-if2 invariant-loop decreases-loop
 array-read-if2 c = omega (arith, c.before.before.before.loop.invariant.1.size)
 
 returns-2 : tie.Need-returns-2 invariant-loop decreases-loop
-returns-2 c = lines-twice c.before.before.before.before.loop.invariant.1 _ c.before.before.line.ensures (omega arith) c.if2.true
+returns-2 c = lines_twice c.before.before.before.before.loop.invariant.1 _ c.before.before.line.ensures (omega arith) c.if2.true
 
 array-write-seen : tie.Need-array-write-seen invariant-loop decreases-loop
 array-write-seen c = omega (arith, c.before.before.before.before.loop.invariant.1.size)
@@ -40,10 +40,10 @@ loop-again : tie.Need-loop-preserved invariant-loop decreases-loop
 loop-again c = (omega arith, lines_more c.before.before.before.before.loop.invariant.1 c.before.before.line.ensures (omega arith) (omega arith) c.if2.false)
 
 returns-3 : tie.Need-returns-3 invariant-loop decreases-loop
-returns-3 c = lines-all c.before.loop.invariant.1 _ (omega arith)
+returns-3 c = lines_all c.before.loop.invariant.1 _ (omega arith)
 
-pub bad-list-spec : {M : Type 1} → statement M
-bad-list-spec =
+pub bad_list_spec : {M : Type 1} → statement M
+bad_list_spec =
     tie.close
     (tie.spec
     invariant-loop

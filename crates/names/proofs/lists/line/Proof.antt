@@ -12,7 +12,7 @@ entry-name-requires c κs = search rules
 returns : tie.Need-returns
 returns c =
     let args' = c.before.before.before.args in
-    c.entry-name.ensures.is ∙ ap (λ (b : Bool). line_of args'.part.now b args'.k) (sym c.before.if1.true)
+    c.entry_name_lem.ensures.is ∙ ap (λ (b : Bool). line_of args'.part.now b args'.k) (sym c.before.if1.true)
 
 global-name-requires : tie.Need-global-name-requires
 global-name-requires c κs = search rules
@@ -20,7 +20,7 @@ global-name-requires c κs = search rules
 returns-2 : tie.Need-returns-2
 returns-2 c =
     let args' = c.before.before.before.args in
-    c.global-name.ensures.is ∙ ap (λ (b : Bool). line_of args'.part.now b args'.k) (sym c.before.if1.false)
+    c.global_name_lem.ensures.is ∙ ap (λ (b : Bool). line_of args'.part.now b args'.k) (sym c.before.if1.false)
 
-pub line-spec : {M : Type 1} → statement M
-line-spec = tie.close (tie.spec entry-name-requires returns global-name-requires returns-2)
+pub line_spec : {M : Type 1} → statement M
+line_spec = tie.close (tie.spec entry-name-requires returns global-name-requires returns-2)

@@ -3,9 +3,9 @@ use Prim.Native.Nat.{◌-◌, ◌≤◌}
 use mathlib.Core.Path.{sym, ap, ◌∙◌}
 use native.Mathlib.Omega.{arith}
 use Rattle.base.specs.Says.{says-true, says-false}
-use Rattle.names.specs.Names.{empty, past-pool}
-use Rattle.names.specs.Inside.Chain.{hashOf, Met}
-use Rattle.names.proofs.Chains.{Chained, chained-none, chained-all, chained-met, chained_more, met-as}
+use Rattle.names.specs.Names.{empty, past_pool}
+use Rattle.names.specs.Inside.Chain.{hash_of, Met}
+use Rattle.names.proofs.Chains.{Chained, chained_none, chained_all, chained_met, chained_more, met_as}
 use Rattle.names.proofs.names.bad_names.Statement.{statement}
 use Rattle.names.proofs.names.bad_names.Tie as tie
 
@@ -16,7 +16,7 @@ abbrev decreases-loop : tie.decreases-loop
 decreases-loop nm pool n heads₀ links₀ j₀ heads links j = n - j
 
 loop-holds : tie.Need-loop-init invariant-loop decreases-loop
-loop-holds c = (omega arith, chained-none _ _)
+loop-holds c = (omega arith, chained_none _ _)
 
 name-offset-requires : tie.Need-name-offset-requires invariant-loop decreases-loop
 name-offset-requires c κs = omega arith
@@ -33,7 +33,7 @@ add-if2 c = omega arith
 returns-2 : tie.Need-returns-2 invariant-loop decreases-loop
 returns-2 c =
     let loop' = c.before.before.before.before.before.loop in
-    past-pool loop'.j (omega arith) (omega (arith, c.before.before.before.name-offset.ensures.is, c.before.before.name-length.ensures.is))
+    past_pool loop'.j (omega arith) (omega (arith, c.before.before.before.name-offset.ensures.is, c.before.before.name-length.ensures.is))
 
 spelled-requires : tie.Need-spelled-requires invariant-loop decreases-loop
 spelled-requires c κs = omega arith
@@ -60,8 +60,8 @@ returns-3 c =
     let loop' = c.before.before.before.before.before.before.before.before.before.before.before.loop in
     let hash' = c.before.before.before.before.hash in
     let spelled' = c.before.before.before.before.before.spelled in
-    let numbered' = hash'.ensures.0 ∙ ap hashOf spelled'.ensures in
-    chained-met loop'.invariant.1 hash'.result numbered' (omega arith) (omega arith) (omega arith) (met-as c.before.before.place.ensures spelled'.ensures (says-true {P = Met _ _ _ _ _} c.if3.true c.before.met.ensures))
+    let numbered' = hash'.ensures.0 ∙ ap hash_of spelled'.ensures in
+    chained_met loop'.invariant.1 hash'.result numbered' (omega arith) (omega arith) (omega arith) (met_as c.before.before.place.ensures spelled'.ensures (says-true {P = Met _ _ _ _ _} c.if3.true c.before.met.ensures))
 
 mul-links : tie.Need-overflow-mul-links invariant-loop decreases-loop
 mul-links c = omega arith
@@ -91,14 +91,14 @@ loop-again c =
     let name-length' = c.before.before.before.before.before.before.before.before.name-length in
     let name-offset' = c.before.before.before.before.before.before.before.before.before.name-offset in
     let spelled' = c.before.before.before.before.before.spelled in
-    let numbered' = hash'.ensures.0 ∙ ap hashOf spelled'.ensures in
-    (omega arith, chained_more loop'.invariant.1 hash'.result numbered' (omega arith) (omega arith) (omega (arith, name-length'.ensures.is)) (omega (arith, name-offset'.ensures.is, name-length'.ensures.is)) (λ m. says-false {P = Met _ _ _ _ _} c.if3.false c.before.met.ensures (met-as (sym c.before.before.place.ensures) (sym spelled'.ensures) m)))
+    let numbered' = hash'.ensures.0 ∙ ap hash_of spelled'.ensures in
+    (omega arith, chained_more loop'.invariant.1 hash'.result numbered' (omega arith) (omega arith) (omega (arith, name-length'.ensures.is)) (omega (arith, name-offset'.ensures.is, name-length'.ensures.is)) (λ m. says-false {P = Met _ _ _ _ _} c.if3.false c.before.met.ensures (met_as (sym c.before.before.place.ensures) (sym spelled'.ensures) m)))
 
 returns-4 : tie.Need-returns-4 invariant-loop decreases-loop
-returns-4 c = chained-all c.before.loop.invariant.1 (omega arith)
+returns-4 c = chained_all c.before.loop.invariant.1 (omega arith)
 
-pub bad-names-spec : {M : Type 1} → statement M
-bad-names-spec =
+pub bad_names_spec : {M : Type 1} → statement M
+bad_names_spec =
     tie.close
     (tie.spec
     invariant-loop

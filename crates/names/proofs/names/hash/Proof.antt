@@ -3,13 +3,13 @@ use Prim.Native.Nat.{ℕ, ◌+◌, ◌*◌, ◌-◌, ◌%◌, ◌≤◌, ◌<◌
 use mathlib.Core.Path.{◌≡◌, refl, sym, subst}
 use native.Mathlib.Omega.{arith}
 use lib.ListN.{length, drop}
-use Rattle.names.specs.Inside.Chain.{hashFrom, hashOf}
-use Rattle.names.proofs.Chains.{hash-step, hash-end}
+use Rattle.names.specs.Inside.Chain.{hash_from, hash_of}
+use Rattle.names.proofs.Chains.{hash_step, hash_end}
 use Rattle.names.proofs.names.hash.Statement.{statement}
 use Rattle.names.proofs.names.hash.Tie as tie
 
 abbrev invariant-loop : tie.invariant-loop
-invariant-loop s h₀ i₀ h i = (h < 1024) × (i ≤ length s) × (hashFrom h (drop i s) ≡ hashOf s)
+invariant-loop s h₀ i₀ h i = (h < 1024) × (i ≤ length s) × (hash_from h (drop i s) ≡ hash_of s)
 
 abbrev decreases-loop : tie.decreases-loop
 decreases-loop s h₀ i₀ h i = length s - i
@@ -39,15 +39,15 @@ loop-again : tie.Need-loop-preserved invariant-loop decreases-loop
 loop-again c =
     let loop' = c.before.before.before.loop in
     let args' = c.before.before.before.before.before.args in
-    (omega arith, omega arith, subst (λ (x : ℕ). hashFrom ((loop'.h * 31 + x) % 1024) (drop (loop'.i + 1) args'.s.now) ≡ hashOf args'.s.now) (sym c.byte.ensures.0) (hash-step args'.s.now loop'.h loop'.i (omega arith) loop'.invariant.2))
+    (omega arith, omega arith, subst (λ (x : ℕ). hash_from ((loop'.h * 31 + x) % 1024) (drop (loop'.i + 1) args'.s.now) ≡ hash_of args'.s.now) (sym c.byte.ensures.0) (hash_step args'.s.now loop'.h loop'.i (omega arith) loop'.invariant.2))
 
 returns : tie.Need-returns invariant-loop decreases-loop
 returns c =
     let loop' = c.before.loop in
-    (hash-end _ _ loop'.i (omega arith) loop'.invariant.2, omega arith)
+    (hash_end _ _ loop'.i (omega arith) loop'.invariant.2, omega arith)
 
-pub hash-spec : {M : Type 1} → statement M
-hash-spec =
+pub hash_spec : {M : Type 1} → statement M
+hash_spec =
     tie.close
     (tie.spec
     invariant-loop

@@ -4,7 +4,7 @@ use mathlib.Core.Path.{sym, ◌∙◌}
 use mathlib.Core.Bool.{false≢true}
 use native.Mathlib.Omega.{arith}
 use Rattle.names.specs.Inside.Chain.{Met}
-use Rattle.names.proofs.Chains.{met-none, met-here, met-there, met_next}
+use Rattle.names.proofs.Chains.{met_none, met_here, met_there, met_next}
 use Rattle.names.proofs.names.met.Statement.{statement}
 use Rattle.names.proofs.names.met.Tie as tie
 
@@ -29,7 +29,7 @@ same-requires c κs = omega arith
 returns : tie.Need-returns invariant-loop decreases-loop
 returns c =
     let loop' = c.before.before.before.before.loop in
-    loop'.invariant.1 (met-here (loop'.k - 1) (omega arith) (sym c.before.before.spelled.ensures ∙ c.before.same.ensures.0 c.if1.true))
+    loop'.invariant.1 (met_here (loop'.k - 1) (omega arith) (sym c.before.before.spelled.ensures ∙ c.before.same.ensures.0 c.if1.true))
 
 mul-place : tie.Need-overflow-mul-place invariant-loop decreases-loop
 mul-place c = omega arith
@@ -50,13 +50,13 @@ loop-again : tie.Need-loop-preserved invariant-loop decreases-loop
 loop-again c =
     let pre' = c.before.before.before.before.before.before.before.before.before.before.requires in
     let loop' = c.before.before.before.before.before.before.loop in
-    (omega (arith, c.place.ensures, pre'.0.down (loop'.k - 1)), λ m. loop'.invariant.1 (met-there (loop'.k - 1) (omega arith) c.place.ensures m), λ m. met_next (loop'.k - 1) (omega arith) c.place.ensures (λ q. false≢true (sym c.before.before.if1.false ∙ c.before.before.before.same.ensures.1 (c.before.before.before.before.spelled.ensures ∙ q))) (loop'.invariant.2 m))
+    (omega (arith, c.place.ensures, pre'.0.down (loop'.k - 1)), λ m. loop'.invariant.1 (met_there (loop'.k - 1) (omega arith) c.place.ensures m), λ m. met_next (loop'.k - 1) (omega arith) c.place.ensures (λ q. false≢true (sym c.before.before.if1.false ∙ c.before.before.before.same.ensures.1 (c.before.before.before.before.spelled.ensures ∙ q))) (loop'.invariant.2 m))
 
 returns-2 : tie.Need-returns-2 invariant-loop decreases-loop
-returns-2 c = λ m. met-none (omega arith) (c.before.loop.invariant.2 m)
+returns-2 c = λ m. met_none (omega arith) (c.before.loop.invariant.2 m)
 
-pub met-spec : {M : Type 1} → statement M
-met-spec =
+pub met_spec : {M : Type 1} → statement M
+met_spec =
     tie.close
     (tie.spec
     invariant-loop

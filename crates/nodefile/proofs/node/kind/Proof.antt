@@ -19,5 +19,5 @@ kind-requires c κs = tt
 returns : tie.Need-returns
 returns c = record { is = c.kind.ensures.is ∙ ap kind_of (c.before.node.ensures ∙ ap (drop (8 * c.before.before.before.before.args.i)) c.before.before.nodes.ensures); below = c.kind.ensures.below }
 
-pub kind-spec : {M : Type 1} → statement M
-kind-spec = tie.close (tie.spec nodes-requires node-requires kind-requires returns)
+pub kind_spec : {M : Type 1} → statement M
+kind_spec = tie.close (tie.spec nodes-requires node-requires kind-requires returns)

@@ -30,8 +30,8 @@ part-result-end c = search rules
 returns-2 : tie.Need-returns-2
 returns-2 c = part-from c.before.before.args.list.now (8 * c.before.before.args.i)
 
-pub node-spec : {M : Type 1} → statement M
-node-spec =
+pub node_spec : {M : Type 1} → statement M
+node_spec =
     tie.close
     (tie.spec
     slice-aggregate-result

@@ -4,17 +4,17 @@ use Prim.Native.Nat.{ℕ, ◌-◌, ◌≤◌}
 use mathlib.Core.Path.{sym, ap, ◌∙◌}
 use mathlib.Core.Logic.{⊎_elim}
 use native.Mathlib.Omega.{arith}
-use Rattle.nodefile.specs.Layout.{nodeCount, nodesOf}
-use Rattle.nodefile.specs.Listed.{isScope, kind_at}
-use Rattle.nodefile.proofs.Counted.{Counted, counted_none, counted-one, counted-not, counted-end}
+use Rattle.nodefile.specs.Layout.{node_count, nodes_of}
+use Rattle.nodefile.specs.Listed.{is_scope, kind_at}
+use Rattle.nodefile.proofs.Counted.{Counted, counted_none, counted-one, counted-not, counted_end}
 use Rattle.nodefile.proofs.node.scope_count.Statement.{statement}
 use Rattle.nodefile.proofs.node.scope_count.Tie as tie
 
 abbrev invariant-loop : tie.invariant-loop
-invariant-loop file n s₀ i₀ s i = (i ≤ nodeCount file) × Counted (λ (j : ℕ). isScope (kind_at (nodesOf file) j)) i s
+invariant-loop file n s₀ i₀ s i = (i ≤ node_count file) × Counted (λ (j : ℕ). is_scope (kind_at (nodes_of file) j)) i s
 
 abbrev decreases-loop : tie.decreases-loop
-decreases-loop file n s₀ i₀ s i = nodeCount file - i
+decreases-loop file n s₀ i₀ s i = node_count file - i
 
 node-count-requires : tie.Need-node-count-requires invariant-loop decreases-loop
 node-count-requires c κs = tt
@@ -44,15 +44,15 @@ loop-again c =
     let p2 = p3.before.before in
     let p1 = p2.before in (
       omega (arith, p1.node-count.ensures.is),
-      let e = ap isScope (sym p3.kind.ensures.is) ∙ sym p4.is-scope.ensures in
+      let e = ap is_scope (sym p3.kind.ensures.is) ∙ sym p4.is_scope_lem.ensures in
           ⊎_elim (λ w. rw w.1 (counted-one p2.loop.invariant.1 (e ∙ w.0.taken))) (λ w. rw w.1 (counted-not p2.loop.invariant.1 (e ∙ w.0.left))) c.if1.branch,
     )
 
 returns : tie.Need-returns invariant-loop decreases-loop
-returns c = record { is = counted-end c.before.loop.invariant.1 c.before.loop.invariant.0 (omega (arith, c.before.before.node-count.ensures.is)); below = omega (arith, c.before.loop.invariant.1.few, c.before.before.node-count.ensures.below, c.before.before.node-count.ensures.is) }
+returns c = record { is = counted_end c.before.loop.invariant.1 c.before.loop.invariant.0 (omega (arith, c.before.before.node-count.ensures.is)); below = omega (arith, c.before.loop.invariant.1.few, c.before.before.node-count.ensures.below, c.before.before.node-count.ensures.is) }
 
-pub scope-count-spec : {M : Type 1} → statement M
-scope-count-spec =
+pub scope_count_spec : {M : Type 1} → statement M
+scope_count_spec =
     tie.close
     (tie.spec
     invariant-loop

@@ -46,5 +46,5 @@ returns c =
     let e : c.before.loop.i ≡ length t = omega (arith, c.before.loop.invariant.1) in
     c.before.loop.invariant.2 ∙ rw (e, drop-length t, append-nil) refl
 
-pub clear64-spec : {M : Type 1} → statement M
-clear64-spec = tie.close (tie.spec invariant-loop decreases-loop loop-holds mul-to slice-write-to add-i loop-less loop-again same_length returns)
+pub clear64_spec : {M : Type 1} → statement M
+clear64_spec = tie.close (tie.spec invariant-loop decreases-loop loop-holds mul-to slice-write-to add-i loop-less loop-again same_length returns)

@@ -23,5 +23,5 @@ returns c = rw (← c.before.before.class.ensures.is, eq-eqb _ _ c.before.if1.tr
 returns-2 : tie.Need-returns-2
 returns-2 c = rw (← c.before.class.ensures.is, ne_eqb _ _ c.if1.false) refl
 
-pub global-key-spec : {M : Type 1} → statement M
-global-key-spec = tie.close (tie.spec class-requires slot-requires add-result cast-result returns returns-2)
+pub global_key_spec : {M : Type 1} → statement M
+global_key_spec = tie.close (tie.spec class-requires slot-requires add-result cast-result returns returns-2)

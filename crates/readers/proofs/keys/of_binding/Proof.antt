@@ -10,5 +10,5 @@ returns c = rw (eq-eqb _ _ c.if1.true) refl
 returns-2 : tie.Need-returns-2
 returns-2 c = rw (ne_eqb _ _ c.if1.false) refl
 
-pub of-binding-spec : {M : Type 1} → statement M
-of-binding-spec = tie.close (tie.spec returns returns-2)
+pub of_binding_spec : {M : Type 1} → statement M
+of_binding_spec = tie.close (tie.spec returns returns-2)

@@ -5,7 +5,7 @@ use native.Mathlib.Omega.{arith}
 use lib.ListN.{length, get_or, length-set}
 use Rattle.nodefile.specs.Node.{kind_of}
 use Rattle.readers.specs.Keys.{key_of, key_at}
-use Rattle.readers.proofs.Put.{Put, put-none, put-more, put_all}
+use Rattle.readers.proofs.Put.{Put, put_none, put_more, put_all}
 use Rattle.readers.proofs.keys.put_keys.Statement.{statement}
 use Rattle.readers.proofs.keys.put_keys.Tie as tie
 
@@ -16,7 +16,7 @@ abbrev decreases-loop : tie.decreases-loop
 decreases-loop globals list nodes keys₀ i₀ keys i = length keys - i
 
 loop-holds : tie.Need-loop-init invariant-loop decreases-loop
-loop-holds c = (omega arith, put-none _ _)
+loop-holds c = (omega arith, put_none _ _)
 
 node-requires : tie.Need-node-requires invariant-loop decreases-loop
 node-requires c κs = tt
@@ -50,7 +50,7 @@ loop-again c =
     let a = c.before.before.before.before.before.before.before.before.before.args in
     let l = c.before.before.before.before.before.loop in (
       omega (arith, length-set l.keys l.i c.key.result),
-      put-more l.invariant.1 (omega arith) (c.key.ensures ∙ ap (λ (k : ℕ). key_of a.globals k (get_or a.nodes.now l.i 0)) (c.before.before.kind.ensures.is ∙ ap kind_of c.before.before.before.node.ensures)),
+      put_more l.invariant.1 (omega arith) (c.key.ensures ∙ ap (λ (k : ℕ). key_of a.globals k (get_or a.nodes.now l.i 0)) (c.before.before.kind.ensures.is ∙ ap kind_of c.before.before.before.node.ensures)),
     )
 
 same_length : tie.Need-same-length invariant-loop decreases-loop
@@ -59,8 +59,8 @@ same_length c = c.before.loop.invariant.1.as_long
 returns : tie.Need-returns invariant-loop decreases-loop
 returns c = put_all c.before.loop.invariant.1 (omega (arith, c.before.loop.invariant.1.as_long))
 
-pub put-keys-spec : {M : Type 1} → statement M
-put-keys-spec =
+pub put_keys_spec : {M : Type 1} → statement M
+put_keys_spec =
     tie.close
     (tie.spec
     invariant-loop

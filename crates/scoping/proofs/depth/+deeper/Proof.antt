@@ -2,7 +2,7 @@
 use native.Mathlib.Omega.{arith}
 use lib.ListN.{length}
 use Rattle.base.specs.Says.{says-true, says-false}
-use Rattle.scoping.proofs.Deep.{Deep, deep-all, deep-end, deep_none, deep-size, deep-kids, deep-under, deep_more}
+use Rattle.scoping.proofs.Deep.{Deep, deep_all, deep_end, deep_none, deep_size, deep_kids, deep_under, deep_more}
 use Prim.Native.Nat.{ℕ, ◌<◌}
 use borrow.Fn.Kinds.{In}
 use borrow.Fn.PlainCycle.{Measures, is, falls, and}
@@ -32,7 +32,7 @@ abbrev deeper-calls : ℕ → deeper-lts.Claims
 deeper-calls t = (size-reads.Asked, size-reads.Learnt, deeper-below t, deeper.Post)
 
 deeper-loop-holds : (t : ℕ) → deeper-lts.Need-loop-init (deeper-calls t) (deeper-at t) deeper.Post deeper-Inv-loop deeper-μ-loop
-deeper-loop-holds t c = deep-all _ c.before.requires.1.0
+deeper-loop-holds t c = deep_all _ c.before.requires.1.0
 
 deeper-mul-loop : (t : ℕ) → deeper-lts.Need-overflow-mul-loop (deeper-calls t) (deeper-at t) deeper.Post deeper-Inv-loop deeper-μ-loop
 deeper-mul-loop t c = omega arith
@@ -48,17 +48,17 @@ deeper-mul-end t c = omega (arith, c.size.ensures.below)
 
 deeper-sub-deeper : (t : ℕ) → deeper-lts.Need-overflow-sub-deeper (deeper-calls t) (deeper-at t) deeper.Post deeper-Inv-loop deeper-μ-loop
 deeper-sub-deeper t c =
-    let sizes' = deep-size c.before.before.before.loop.invariant (omega arith) c.size.ensures.is in
+    let sizes' = deep_size c.before.before.before.loop.invariant (omega arith) c.size.ensures.is in
     omega (arith, sizes')
 
 deeper-part-deeper-start : (t : ℕ) → deeper-lts.Need-slice-bounds-deeper-start (deeper-calls t) (deeper-at t) deeper.Post deeper-Inv-loop deeper-μ-loop
 deeper-part-deeper-start t c =
-    let sizes' = deep-size c.before.before.before.loop.invariant (omega arith) c.size.ensures.is in
+    let sizes' = deep_size c.before.before.before.loop.invariant (omega arith) c.size.ensures.is in
     omega (arith, sizes')
 
 deeper-part-deeper-end : (t : ℕ) → deeper-lts.Need-slice-bounds-deeper-end (deeper-calls t) (deeper-at t) deeper.Post deeper-Inv-loop deeper-μ-loop
 deeper-part-deeper-end t c =
-    let sizes' = deep-size c.before.before.before.loop.invariant (omega arith) c.size.ensures.is in
+    let sizes' = deep_size c.before.before.before.loop.invariant (omega arith) c.size.ensures.is in
     omega (arith, sizes')
 
 deeper-sub-deeper-2 : (t : ℕ) → deeper-lts.Need-overflow-sub-deeper-2 (deeper-calls t) (deeper-at t) deeper.Post deeper-Inv-loop deeper-μ-loop
@@ -67,35 +67,35 @@ deeper-sub-deeper-2 t c = omega arith
 deeper-deeper-requires : (t : ℕ) → deeper-lts.Need-deeper-requires (deeper-calls t) (deeper-at t) deeper.Post deeper-Inv-loop deeper-μ-loop
 deeper-deeper-requires t c κs =
     let pre' = c.before.before.before.before.before.before.requires in
-    (omega (arith, pre'.0), (deep-kids c.before.before.before.before.loop.invariant (omega arith) c.before.size.ensures.is, omega arith))
+    (omega (arith, pre'.0), (deep_kids c.before.before.before.before.loop.invariant (omega arith) c.before.size.ensures.is, omega arith))
 
 deeper-returns-2 : (t : ℕ) → deeper-lts.Need-returns-2 (deeper-calls t) (deeper-at t) deeper.Post deeper-Inv-loop deeper-μ-loop
 deeper-returns-2 t c =
     let loop' = c.before.before.before.before.before.before.loop in
-    deep-under loop'.invariant (omega arith) c.before.before.before.size.ensures.is (omega arith) (λ at g r. says-true c.if2.true (c.before.deeper.ensures at g r))
+    deep_under loop'.invariant (omega arith) c.before.before.before.size.ensures.is (omega arith) (λ at g r. says-true c.if2.true (c.before.deeper.ensures at g r))
 
 deeper-sub-u : (t : ℕ) → deeper-lts.Need-overflow-sub-u (deeper-calls t) (deeper-at t) deeper.Post deeper-Inv-loop deeper-μ-loop
 deeper-sub-u t c =
     let loop' = c.before.before.before.before.before.before.loop in
-    let sizes' = deep-size loop'.invariant (omega arith) c.before.before.before.size.ensures.is in
+    let sizes' = deep_size loop'.invariant (omega arith) c.before.before.before.size.ensures.is in
     omega (arith, sizes')
 
 deeper-part-u-start : (t : ℕ) → deeper-lts.Need-slice-bounds-u-start (deeper-calls t) (deeper-at t) deeper.Post deeper-Inv-loop deeper-μ-loop
 deeper-part-u-start t c =
     let loop' = c.before.before.before.before.before.before.loop in
-    let sizes' = deep-size loop'.invariant (omega arith) c.before.before.before.size.ensures.is in
+    let sizes' = deep_size loop'.invariant (omega arith) c.before.before.before.size.ensures.is in
     omega (arith, sizes')
 
 deeper-part-u-end : (t : ℕ) → deeper-lts.Need-slice-bounds-u-end (deeper-calls t) (deeper-at t) deeper.Post deeper-Inv-loop deeper-μ-loop
 deeper-part-u-end t c =
     let loop' = c.before.before.before.before.before.before.loop in
-    let sizes' = deep-size loop'.invariant (omega arith) c.before.before.before.size.ensures.is in
+    let sizes' = deep_size loop'.invariant (omega arith) c.before.before.before.size.ensures.is in
     omega (arith, sizes')
 
 deeper-loop-less : (t : ℕ) → deeper-lts.Need-loop-smaller (deeper-calls t) (deeper-at t) deeper.Post deeper-Inv-loop deeper-μ-loop
 deeper-loop-less t c =
     let loop' = c.before.before.before.before.before.before.before.loop in
-    let sizes' = deep-size loop'.invariant (omega arith) c.before.before.before.before.size.ensures.is in
+    let sizes' = deep_size loop'.invariant (omega arith) c.before.before.before.before.size.ensures.is in
     omega (arith, sizes')
 
 deeper-loop-again : (t : ℕ) → deeper-lts.Need-loop-preserved (deeper-calls t) (deeper-at t) deeper.Post deeper-Inv-loop deeper-μ-loop
@@ -104,7 +104,7 @@ deeper-loop-again t c =
     deep_more loop'.invariant (omega arith) c.before.before.before.before.size.ensures.is (omega arith) (λ at g r. says-false c.before.if2.false (c.before.before.deeper.ensures at g r))
 
 deeper-returns-3 : (t : ℕ) → deeper-lts.Need-returns-3 (deeper-calls t) (deeper-at t) deeper.Post deeper-Inv-loop deeper-μ-loop
-deeper-returns-3 t c = deep-end c.before.loop.invariant (omega arith)
+deeper-returns-3 t c = deep_end c.before.loop.invariant (omega arith)
 
 pub +deeper-spec : {M : Type 1} → statement M
 +deeper-spec = close μ-deeper λ t. deeper-lts.spec (deeper-calls t) (deeper-at t) deeper.Post

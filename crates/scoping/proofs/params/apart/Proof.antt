@@ -4,8 +4,8 @@ use native.Mathlib.Omega.{arith}
 use lib.ListN.{length}
 use Rattle.base.specs.Parts.{part-from}
 use Rattle.nodefile.specs.Node.{value_of}
-use Rattle.nodefile.specs.Fitting.{fits-first}
-use Rattle.scoping.proofs.Naming.{Naming, naming-none, naming-end, naming-skip, naming-known, naming-again, naming-more}
+use Rattle.nodefile.specs.Fitting.{fits_first}
+use Rattle.scoping.proofs.Naming.{Naming, naming-none, naming_end, naming_skip, naming_known, naming-again, naming_more}
 use Rattle.scoping.proofs.params.apart.Statement.{statement}
 use Rattle.scoping.proofs.params.apart.Tie as tie
 
@@ -47,7 +47,7 @@ element-copy-out-if2 c =
     let pre' = c.before.before.before.before.before.before.before.before.requires in
     let named' = sym c.before.before.before.is-named.ensures ∙ c.before.before.if1.true in
     let value' = c.value.ensures.is ∙ ap value_of (part-from loop'.t.now 8) in
-    let known' = naming-known loop'.invariant (omega arith) c.before.before.before.before.size.ensures.is named' value' pre'.0 in
+    let known' = naming_known loop'.invariant (omega arith) c.before.before.before.before.size.ensures.is named' value' pre'.0 in
     omega (arith, known')
 
 returns : tie.Need-returns invariant-loop decreases-loop
@@ -67,35 +67,35 @@ element-write-marks c =
     let pre' = c.before.before.before.before.before.before.before.before.before.before.requires in
     let named' = sym is-named'.ensures ∙ c.before.before.before.before.if1.true in
     let value' = c.before.before.value.ensures.is ∙ ap value_of (part-from loop'.t.now 8) in
-    let known' = naming-known loop'.invariant (omega arith) size'.ensures.is named' value' pre'.0 in
+    let known' = naming_known loop'.invariant (omega arith) size'.ensures.is named' value' pre'.0 in
     omega (arith, known')
 
 sub-t : tie.Need-overflow-sub-t invariant-loop decreases-loop
 sub-t c =
     let size' = c.before.before.before.before.before.before.size in
     let loop' = c.before.before.before.before.before.before.before.before.loop in
-    let first' = fits-first loop'.invariant.fits (omega arith) in
+    let first' = fits_first loop'.invariant.fits (omega arith) in
     omega (arith, first', size'.ensures.is)
 
 part-t-start : tie.Need-slice-bounds-t-start invariant-loop decreases-loop
 part-t-start c =
     let size' = c.before.before.before.before.before.before.size in
     let loop' = c.before.before.before.before.before.before.before.before.loop in
-    let first' = fits-first loop'.invariant.fits (omega arith) in
+    let first' = fits_first loop'.invariant.fits (omega arith) in
     omega (arith, first', size'.ensures.is)
 
 part-t-end : tie.Need-slice-bounds-t-end invariant-loop decreases-loop
 part-t-end c =
     let size' = c.before.before.before.before.before.before.size in
     let loop' = c.before.before.before.before.before.before.before.before.loop in
-    let first' = fits-first loop'.invariant.fits (omega arith) in
+    let first' = fits_first loop'.invariant.fits (omega arith) in
     omega (arith, first', size'.ensures.is)
 
 loop-less : tie.Need-loop-smaller invariant-loop decreases-loop
 loop-less c =
     let size' = c.before.before.before.before.before.before.before.size in
     let loop' = c.before.before.before.before.before.before.before.before.before.loop in
-    let first' = fits-first loop'.invariant.fits (omega arith) in
+    let first' = fits_first loop'.invariant.fits (omega arith) in
     omega (arith, first', size'.ensures.is)
 
 loop-again : tie.Need-loop-preserved invariant-loop decreases-loop
@@ -107,42 +107,42 @@ loop-again c =
     let pre' = c.before.before.before.before.before.before.before.before.before.before.before.requires in
     let named' = sym is-named'.ensures ∙ if1'.true in
     let value' = c.before.before.before.value.ensures.is ∙ ap value_of (part-from loop'.t.now 8) in
-    let known' = naming-known loop'.invariant (omega arith) size'.ensures.is named' value' pre'.0 in
-    naming-more loop'.invariant (omega arith) size'.ensures.is named' value' known' c.before.if2.false
+    let known' = naming_known loop'.invariant (omega arith) size'.ensures.is named' value' pre'.0 in
+    naming_more loop'.invariant (omega arith) size'.ensures.is named' value' known' c.before.if2.false
 
 sub-t-2 : tie.Need-overflow-sub-t-2 invariant-loop decreases-loop
 sub-t-2 c =
-    let first' = fits-first c.before.before.before.before.loop.invariant.fits (omega arith) in
+    let first' = fits_first c.before.before.before.before.loop.invariant.fits (omega arith) in
     omega (arith, first', c.before.before.size.ensures.is)
 
 part-t-start-2 : tie.Need-slice-bounds-t-start-2 invariant-loop decreases-loop
 part-t-start-2 c =
-    let first' = fits-first c.before.before.before.before.loop.invariant.fits (omega arith) in
+    let first' = fits_first c.before.before.before.before.loop.invariant.fits (omega arith) in
     omega (arith, first', c.before.before.size.ensures.is)
 
 part-t-end-2 : tie.Need-slice-bounds-t-end-2 invariant-loop decreases-loop
 part-t-end-2 c =
-    let first' = fits-first c.before.before.before.before.loop.invariant.fits (omega arith) in
+    let first' = fits_first c.before.before.before.before.loop.invariant.fits (omega arith) in
     omega (arith, first', c.before.before.size.ensures.is)
 
 loop-less-2 : tie.Need-loop-smaller-2 invariant-loop decreases-loop
 loop-less-2 c =
     let loop' = c.before.before.before.before.before.loop in
-    let first' = fits-first loop'.invariant.fits (omega arith) in
+    let first' = fits_first loop'.invariant.fits (omega arith) in
     omega (arith, first', c.before.before.before.size.ensures.is)
 
 loop-again-2 : tie.Need-loop-preserved-2 invariant-loop decreases-loop
 loop-again-2 c =
     let loop' = c.before.before.before.before.before.loop in
-    naming-skip loop'.invariant (omega arith) c.before.before.before.size.ensures.is (sym c.before.before.is-named.ensures ∙ c.before.if1.false)
+    naming_skip loop'.invariant (omega arith) c.before.before.before.size.ensures.is (sym c.before.before.is-named.ensures ∙ c.before.if1.false)
 
 returns-2 : tie.Need-returns-2 invariant-loop decreases-loop
 returns-2 c =
     let loop' = c.before.loop in
-    (naming-end loop'.invariant (omega arith), loop'.invariant.fresh)
+    (naming_end loop'.invariant (omega arith), loop'.invariant.fresh)
 
-pub apart-spec : {M : Type 1} → statement M
-apart-spec =
+pub apart_spec : {M : Type 1} → statement M
+apart_spec =
     tie.close
     (tie.spec
     invariant-loop

@@ -28,5 +28,5 @@ returns-3 c =
     let args' = c.before.before.before.before.before.args in
     rw (le-ltb 1 (size_of args'.t.now) (omega (arith, c.before.size.ensures.is)), and-false (eqb (kind_of args'.t.now) 17))
 
-pub is-named-spec : {M : Type 1} → statement M
-is-named-spec = tie.close (tie.spec kind-requires returns size-requires returns-2 returns-3)
+pub is_named_spec : {M : Type 1} → statement M
+is_named_spec = tie.close (tie.spec kind-requires returns size-requires returns-2 returns-3)

@@ -9,9 +9,9 @@ use Rattle.nodefile.specs.Node.{kind_of, below}
 use Rattle.nodefile.specs.Kids.{Kids, Fits}
 use Rattle.shape.specs.Nodes.{at}
 use Rattle.lexical.specs.Table.{allowed}
-use Rattle.shape.specs.Children.{root-no-statement, other-children}
-use Rattle.shape.proofs.Pass.{Passed, passed_none, passed-inside, passed-more, passed-all}
-use Rattle.shape.proofs.Here.{node-here, kids-here}
+use Rattle.shape.specs.Children.{root_no_statement, other_children}
+use Rattle.shape.proofs.Pass.{Passed, passed_none, passed_inside, passed_more, passed_all}
+use Rattle.shape.proofs.Here.{node_here, kids_here}
 use Rattle.nodefile.specs.Fitting.{below-is}
 use Rattle.shape.proofs.children.bad_children.Statement.{statement}
 use Rattle.shape.proofs.children.bad_children.Tie as tie
@@ -26,7 +26,7 @@ kind-requires : tie.Need-kind-requires invariant-loop decreases-loop
 kind-requires c κs = tt
 
 returns : tie.Need-returns invariant-loop decreases-loop
-returns c = root-no-statement (omega arith)
+returns c = root_no_statement (omega arith)
 
 loop-holds : tie.Need-loop-init invariant-loop decreases-loop
 loop-holds c = passed_none _ _
@@ -40,19 +40,19 @@ mul-end c = omega arith
 sub-kids-allowed : tie.Need-overflow-sub-kids-allowed invariant-loop decreases-loop
 sub-kids-allowed c =
     let pre' = c.before.before.before.before.before.before.requires in
-    let node' = node-here pre' c.before.before.loop.invariant (omega arith) in
+    let node' = node_here pre' c.before.before.loop.invariant (omega arith) in
     omega (arith, node', c.size.ensures.is)
 
 part-kids-allowed-start : tie.Need-slice-bounds-kids-allowed-start invariant-loop decreases-loop
 part-kids-allowed-start c =
     let pre' = c.before.before.before.before.before.before.requires in
-    let node' = node-here pre' c.before.before.loop.invariant (omega arith) in
+    let node' = node_here pre' c.before.before.loop.invariant (omega arith) in
     omega (arith, node', c.size.ensures.is)
 
 part-kids-allowed-end : tie.Need-slice-bounds-kids-allowed-end invariant-loop decreases-loop
 part-kids-allowed-end c =
     let pre' = c.before.before.before.before.before.before.requires in
-    let node' = node-here pre' c.before.before.loop.invariant (omega arith) in
+    let node' = node_here pre' c.before.before.loop.invariant (omega arith) in
     omega (arith, node', c.size.ensures.is)
 
 kind-requires-2 : tie.Need-kind-requires-2 invariant-loop decreases-loop
@@ -61,7 +61,7 @@ kind-requires-2 c κs = tt
 kids-allowed-requires : tie.Need-kids-allowed-requires invariant-loop decreases-loop
 kids-allowed-requires c κs =
     let pre' = c.before.before.before.before.before.before.before.before.requires in
-    let node' = node-here pre' c.before.before.before.before.loop.invariant (omega arith) in
+    let node' = node_here pre' c.before.before.before.before.loop.invariant (omega arith) in
     (subst Fits (sym (below-is _ c.before.before.size.ensures.is)) node'.fits, omega (arith, node', c.kind2.ensures.is))
 
 sub-t : tie.Need-overflow-sub-t invariant-loop decreases-loop
@@ -81,24 +81,24 @@ loop-again c =
     let loop' = c.before.before.before.before.before.before.before.loop in
     let kids-allowed' = c.before.before.kids-allowed in
     let size' = c.before.before.before.before.before.size in
-    let said' = kids-here (λ k ks. kids-allowed'.result ≡ allowed k ks) size'.ensures.is c.before.before.before.kind2.ensures.is loop'.invariant.part kids-allowed'.ensures in
-    passed-more loop'.invariant (λ ks m. sym (said' ks m) ∙ c.before.if2.true)
+    let said' = kids_here (λ k ks. kids-allowed'.result ≡ allowed k ks) size'.ensures.is c.before.before.before.kind2.ensures.is loop'.invariant.part kids-allowed'.ensures in
+    passed_more loop'.invariant (λ ks m. sym (said' ks m) ∙ c.before.if2.true)
 
 returns-2 : tie.Need-returns-2 invariant-loop decreases-loop
 returns-2 c =
     let loop' = c.before.before.before.before.before.before.loop in
     let pre' = c.before.before.before.before.before.before.before.before.before.before.requires in
     let kids-allowed' = c.before.kids-allowed in
-    let said' = kids-here (λ k ks. kids-allowed'.result ≡ allowed k ks) c.before.before.before.before.size.ensures.is c.before.before.kind2.ensures.is loop'.invariant.part kids-allowed'.ensures in
-    let l = passed-inside loop'.invariant (omega arith) in let f = pre'.fits loop'.invariant.here l in other-children loop'.invariant.here l f.0 f.1 (sym (said' f.0 f.1) ∙ c.if2.false)
+    let said' = kids_here (λ k ks. kids-allowed'.result ≡ allowed k ks) c.before.before.before.before.size.ensures.is c.before.before.kind2.ensures.is loop'.invariant.part kids-allowed'.ensures in
+    let l = passed_inside loop'.invariant (omega arith) in let f = pre'.fits loop'.invariant.here l in other_children loop'.invariant.here l f.0 f.1 (sym (said' f.0 f.1) ∙ c.if2.false)
 
 returns-3 : tie.Need-returns-3 invariant-loop decreases-loop
 returns-3 c =
     let pre' = c.before.before.before.before.before.requires in
-    λ f. elim f [ root-no-statement h ↦ omega arith | other-children k l ks m n ↦ true≢false (sym (passed-all c.before.loop.invariant (omega arith) (omega (arith, pre'.root)) k l ks m) ∙ n) ]
+    λ f. elim f [ root_no_statement h ↦ omega arith | other_children k l ks m n ↦ true≢false (sym (passed_all c.before.loop.invariant (omega arith) (omega (arith, pre'.root)) k l ks m) ∙ n) ]
 
-pub bad-children-spec : {M : Type 1} → statement M
-bad-children-spec =
+pub bad_children_spec : {M : Type 1} → statement M
+bad_children_spec =
     tie.close
     (tie.spec
     invariant-loop

@@ -87,8 +87,8 @@ returns-19 c =
     let args' = c.before.args in
     let e : 18 ≡ args'.kind = omega (arith, none_of args'.kind 18 c.match.rest) in ap (λ (k : ℕ). code_of (row k)) e
 
-pub code-spec : {M : Type 1} → statement M
-code-spec =
+pub code_spec : {M : Type 1} → statement M
+code_spec =
     tie.close
     (tie.spec
     returns

@@ -1,8 +1,8 @@
 -- The children of one node: a walk over them with what is left of the row.
 use native.Mathlib.Omega.{arith}
 use lib.ListN.{length}
-use Rattle.nodefile.specs.Fitting.{fits-first}
-use Rattle.shape.proofs.Filling.{Filling, filling-all, filling-fits, filling-more, filling-end, filling-other, filling-some, filling-bare}
+use Rattle.nodefile.specs.Fitting.{fits_first}
+use Rattle.shape.proofs.Filling.{Filling, filling_all, filling_fits, filling_more, filling_end, filling_other, filling_some, filling_bare}
 use Rattle.shape.proofs.children.kids_allowed.Statement.{statement}
 use Rattle.shape.proofs.children.kids_allowed.Tie as tie
 
@@ -16,7 +16,7 @@ code-requires : tie.Need-code-requires invariant-loop decreases-loop
 code-requires c κs = omega arith
 
 loop-holds : tie.Need-loop-init invariant-loop decreases-loop
-loop-holds c = filling-all _ _ _ c.before.before.requires.1 c.code.ensures
+loop-holds c = filling_all _ _ _ c.before.before.requires.1 c.code.ensures
 
 kind-requires : tie.Need-kind-requires invariant-loop decreases-loop
 kind-requires c κs = tt
@@ -33,49 +33,49 @@ mul-end c = omega arith
 sub-t : tie.Need-overflow-sub-t invariant-loop decreases-loop
 sub-t c =
     let pre' = c.before.before.before.before.before.before.before.requires in
-    let first' = fits-first (filling-fits c.before.before.before.before.loop.invariant pre'.0) (omega arith) in
+    let first' = fits_first (filling_fits c.before.before.before.before.loop.invariant pre'.0) (omega arith) in
     omega (arith, first', c.size.ensures.is)
 
 part-t-start : tie.Need-slice-bounds-t-start invariant-loop decreases-loop
 part-t-start c =
     let pre' = c.before.before.before.before.before.before.before.requires in
-    let first' = fits-first (filling-fits c.before.before.before.before.loop.invariant pre'.0) (omega arith) in
+    let first' = fits_first (filling_fits c.before.before.before.before.loop.invariant pre'.0) (omega arith) in
     omega (arith, first', c.size.ensures.is)
 
 part-t-end : tie.Need-slice-bounds-t-end invariant-loop decreases-loop
 part-t-end c =
     let pre' = c.before.before.before.before.before.before.before.requires in
-    let first' = fits-first (filling-fits c.before.before.before.before.loop.invariant pre'.0) (omega arith) in
+    let first' = fits_first (filling_fits c.before.before.before.before.loop.invariant pre'.0) (omega arith) in
     omega (arith, first', c.size.ensures.is)
 
 loop-less : tie.Need-loop-smaller invariant-loop decreases-loop
 loop-less c =
     let loop' = c.before.before.before.before.before.loop in
     let pre' = c.before.before.before.before.before.before.before.before.requires in
-    let first' = fits-first (filling-fits loop'.invariant pre'.0) (omega arith) in
+    let first' = fits_first (filling_fits loop'.invariant pre'.0) (omega arith) in
     omega (arith, first', c.before.size.ensures.is)
 
 loop-again : tie.Need-loop-preserved invariant-loop decreases-loop
 loop-again c =
     let loop' = c.before.before.before.before.before.loop in
-    filling-more loop'.invariant (omega arith) c.before.before.before.kind.ensures.is c.before.size.ensures.is c.before.before.rest.ensures
+    filling_more loop'.invariant (omega arith) c.before.before.before.kind.ensures.is c.before.size.ensures.is c.before.before.rest.ensures
 
 returns : tie.Need-returns invariant-loop decreases-loop
-returns c = λ ks k. filling-end c.before.before.loop.invariant (omega arith) k c.if1.true
+returns c = λ ks k. filling_end c.before.before.loop.invariant (omega arith) k c.if1.true
 
 returns-2 : tie.Need-returns-2 invariant-loop decreases-loop
-returns-2 c = λ ks k. filling-other c.before.before.before.loop.invariant (omega arith) k c.before.if1.false c.if2.true
+returns-2 c = λ ks k. filling_other c.before.before.before.loop.invariant (omega arith) k c.before.if1.false c.if2.true
 
 returns-3 : tie.Need-returns-3 invariant-loop decreases-loop
 returns-3 c =
     let args' = c.before.before.before.before.before.before.before.args in
-    λ ks k. filling-bare args'.kind (omega arith) (omega arith) k
+    λ ks k. filling_bare args'.kind (omega arith) (omega arith) k
 
 returns-4 : tie.Need-returns-4 invariant-loop decreases-loop
-returns-4 c = λ ks k. filling-some c.before.before.before.before.loop.invariant (omega arith) k c.before.before.if1.false (omega arith)
+returns-4 c = λ ks k. filling_some c.before.before.before.before.loop.invariant (omega arith) k c.before.before.if1.false (omega arith)
 
-pub kids-allowed-spec : {M : Type 1} → statement M
-kids-allowed-spec =
+pub kids_allowed_spec : {M : Type 1} → statement M
+kids_allowed_spec =
     tie.close
     (tie.spec
     invariant-loop

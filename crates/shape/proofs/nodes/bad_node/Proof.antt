@@ -3,7 +3,7 @@ use mathlib.Core.Path.{sym, subst}
 use native.Mathlib.Omega.{arith}
 use Rattle.base.specs.Says.{says-true, says-false}
 use Rattle.nodefile.specs.Kids.{Fits}
-use Rattle.shape.specs.Inside.Node.{kind, zero_bits, value, size, past-list, misfit}
+use Rattle.shape.specs.Inside.Node.{kind, zero_bits, value, size, past_list, misfit}
 use Rattle.shape.proofs.Values.{value_as}
 use Rattle.nodefile.specs.Fitting.{below-is}
 use borrow.Author.Rules.{rules}
@@ -43,7 +43,7 @@ mul-end : tie.Need-overflow-mul-end
 mul-end c = search rules
 
 returns-5 : tie.Need-returns-5
-returns-5 c = past-list (omega arith)
+returns-5 c = past_list (omega arith)
 
 sub-kids-fit : tie.Need-overflow-sub-kids-fit
 sub-kids-fit c = search rules
@@ -64,15 +64,15 @@ returns-6 c =
     let kind' = c.before.before.before.before.before.before.before.before.before.before.before.before.kind in
     let value' = c.before.before.before.before.before.before.before.before.value in
     let size' = c.before.before.before.before.before.size in
-    λ f. elim f [ kind h ↦ omega arith | zero_bits h ↦ omega arith | value h ↦ says-false if3'.false bad-value'.ensures (value_as (sym kind'.ensures.is) (sym value'.ensures.is) h) | size h ↦ omega arith | past-list h ↦ omega arith | misfit h ↦ h (subst Fits (below-is _ size'.ensures.is) (says-true c.if6.true c.before.kids-fit.ensures)) ]
+    λ f. elim f [ kind h ↦ omega arith | zero_bits h ↦ omega arith | value h ↦ says-false if3'.false bad-value'.ensures (value_as (sym kind'.ensures.is) (sym value'.ensures.is) h) | size h ↦ omega arith | past_list h ↦ omega arith | misfit h ↦ h (subst Fits (below-is _ size'.ensures.is) (says-true c.if6.true c.before.kids-fit.ensures)) ]
 
 returns-7 : tie.Need-returns-7
 returns-7 c =
     let size' = c.before.before.before.before.before.size in
     misfit (λ f. says-false c.if6.false c.before.kids-fit.ensures (subst Fits (sym (below-is _ size'.ensures.is)) f))
 
-pub bad-node-spec : {M : Type 1} → statement M
-bad-node-spec =
+pub bad_node_spec : {M : Type 1} → statement M
+bad_node_spec =
     tie.close
     (tie.spec
     kind-requires

@@ -3,10 +3,10 @@ use mathlib.Core.Path.{sym, subst}
 use native.Mathlib.Omega.{arith}
 use lib.ListN.{length}
 use Rattle.base.specs.Says.{says-true, says-false}
-use Rattle.shape.specs.Nodes.{at, root-size}
+use Rattle.shape.specs.Nodes.{at, root_size}
 use Rattle.shape.specs.Inside.Node.{BadNode}
-use Rattle.shape.proofs.Pass.{Passed, passed_none, passed-inside, passed-more, passed-all}
-use Rattle.shape.proofs.Fitting.{node-fault, no-faults}
+use Rattle.shape.proofs.Pass.{Passed, passed_none, passed_inside, passed_more, passed_all}
+use Rattle.shape.proofs.Fitting.{node_fault, no_faults}
 use Rattle.shape.proofs.nodes.bad_nodes.Statement.{statement}
 use Rattle.shape.proofs.nodes.bad_nodes.Tie as tie
 
@@ -23,7 +23,7 @@ mul-if1 : tie.Need-overflow-mul-if1 invariant-loop decreases-loop
 mul-if1 c = omega arith
 
 returns : tie.Need-returns invariant-loop decreases-loop
-returns c = root-size (omega arith)
+returns c = root_size (omega arith)
 
 loop-holds : tie.Need-loop-init invariant-loop decreases-loop
 loop-holds c = passed_none _ _
@@ -35,7 +35,7 @@ returns-2 : tie.Need-returns-2 invariant-loop decreases-loop
 returns-2 c =
     let args' = c.before.before.before.before.before.before.before.args in
     let loop' = c.before.before.before.loop in
-    node-fault args'.ns.now args'.names (omega arith) loop'.invariant.here (passed-inside loop'.invariant (omega arith)) (subst (BadNode args'.names) loop'.invariant.part (says-true c.if2.true c.before.bad-node.ensures))
+    node_fault args'.ns.now args'.names (omega arith) loop'.invariant.here (passed_inside loop'.invariant (omega arith)) (subst (BadNode args'.names) loop'.invariant.part (says-true c.if2.true c.before.bad-node.ensures))
 
 sub-t : tie.Need-overflow-sub-t invariant-loop decreases-loop
 sub-t c = omega arith
@@ -53,15 +53,15 @@ loop-again : tie.Need-loop-preserved invariant-loop decreases-loop
 loop-again c =
     let loop' = c.before.before.before.before.loop in
     let args' = c.before.before.before.before.before.before.before.before.args in
-    passed-more loop'.invariant (λ f. says-false c.before.if2.false c.before.before.bad-node.ensures (subst (BadNode args'.names) (sym loop'.invariant.part) f))
+    passed_more loop'.invariant (λ f. says-false c.before.if2.false c.before.before.bad-node.ensures (subst (BadNode args'.names) (sym loop'.invariant.part) f))
 
 returns-3 : tie.Need-returns-3 invariant-loop decreases-loop
 returns-3 c =
     let args' = c.before.before.before.before.before.args in
-    no-faults args'.ns.now args'.names (omega arith) (passed-all c.before.loop.invariant (omega arith) (omega arith))
+    no_faults args'.ns.now args'.names (omega arith) (passed_all c.before.loop.invariant (omega arith) (omega arith))
 
-pub bad-nodes-spec : {M : Type 1} → statement M
-bad-nodes-spec =
+pub bad_nodes_spec : {M : Type 1} → statement M
+bad_nodes_spec =
     tie.close
     (tie.spec
     invariant-loop

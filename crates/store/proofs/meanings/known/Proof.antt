@@ -24,7 +24,7 @@ wide-requires c κs = search rules
 returns : tie.Need-returns
 returns c = (c.wide.ensures.0 ∙ ap (λ (x : ℕ). get_or c.before.before.before.before.args.t.now (x + c.before.before.before.before.args.name) 0) c.before.before.base.ensures.0, c.wide.ensures.1)
 
-pub known-spec : {M : Type 1} → statement M
-known-spec =
+pub known_spec : {M : Type 1} → statement M
+known_spec =
     tie.close
     (tie.spec base-requires add_wide mul_wide shared-slice-read-wide wide-requires returns)

@@ -28,6 +28,6 @@ same_length c = search rules
 returns : tie.Need-returns
 returns c = rw c.base.ensures.0 refl
 
-pub put-known-spec : {M : Type 1} → statement M
-put-known-spec =
+pub put_known_spec : {M : Type 1} → statement M
+put_known_spec =
     tie.close (tie.spec add-t cast_t base-requires add-t-2 mul-t slice-write-t same_length returns)

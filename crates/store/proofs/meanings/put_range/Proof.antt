@@ -36,8 +36,8 @@ same_length c = search rules
 returns : tie.Need-returns
 returns c = search rules
 
-pub put-range-spec : {M : Type 1} → statement M
-put-range-spec =
+pub put_range_spec : {M : Type 1} → statement M
+put_range_spec =
     tie.close
     (tie.spec
     cast_t

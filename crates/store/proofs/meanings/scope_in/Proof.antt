@@ -4,7 +4,7 @@ use mathlib.Core.Path.{◌≡◌, sym, ◌∙◌}
 use native.Mathlib.Omega.{arith}
 use lib.ListN.{length, length-set}
 use Rattle.store.specs.Scoping.{Opening}
-use Rattle.store.proofs.Reached.{Opens, opens-few, opens-start, opens-next, opens-end}
+use Rattle.store.proofs.Reached.{Opens, opens_few, opens-start, opens-next, opens_end}
 use Rattle.store.proofs.meanings.scope_in.Statement.{statement}
 use Rattle.store.proofs.meanings.scope_in.Tie as tie
 
@@ -21,12 +21,12 @@ sub-k : tie.Need-overflow-sub-k invariant-loop decreases-loop
 sub-k c = omega arith
 
 name-of-requires : tie.Need-name-of-requires invariant-loop decreases-loop
-name-of-requires c κs = omega (arith, c.before.before.before.before.before.requires.0, opens-few c.before.before.before.before.before.requires.2)
+name-of-requires c κs = omega (arith, c.before.before.before.before.before.requires.0, opens_few c.before.before.before.before.before.requires.2)
 
 push-requires : tie.Need-push-requires invariant-loop decreases-loop
 push-requires c κs =
     let g = c.before.before.before.before.before.before.requires.2 in
-    ((opens-next g c.before.before.before.loop.k c.name_of.result c.before.before.before.loop.t (omega arith) (omega arith) c.name_of.ensures.0).small, omega (arith, opens-few g), c.before.before.before.loop.invariant.1)
+    ((opens-next g c.before.before.before.loop.k c.name_of.result c.before.before.before.loop.t (omega arith) (omega arith) c.name_of.ensures.0).small, omega (arith, opens_few g), c.before.before.before.loop.invariant.1)
 
 loop-less : tie.Need-loop-smaller invariant-loop decreases-loop
 loop-less c = omega arith
@@ -45,10 +45,10 @@ same_length : tie.Need-same-length invariant-loop decreases-loop
 same_length c = c.before.loop.invariant.1 ∙ sym c.before.before.before.before.requires.1
 
 returns : tie.Need-returns invariant-loop decreases-loop
-returns c = record { right = λ g. opens-end g c.before.loop.k c.before.loop.t (omega arith) (c.before.loop.invariant.2 g) }
+returns c = record { right = λ g. opens_end g c.before.loop.k c.before.loop.t (omega arith) (c.before.loop.invariant.2 g) }
 
-pub scope-in-spec : {M : Type 1} → statement M
-scope-in-spec =
+pub scope_in_spec : {M : Type 1} → statement M
+scope_in_spec =
     tie.close
     (tie.spec
     invariant-loop

@@ -4,7 +4,7 @@ use mathlib.Core.Path.{◌≡◌, sym, ◌∙◌}
 use native.Mathlib.Omega.{arith}
 use lib.ListN.{length, length-set}
 use Rattle.store.specs.Scoping.{Closing}
-use Rattle.store.proofs.Reached.{Closes, closes-start, closes-next, closes-end}
+use Rattle.store.proofs.Reached.{Closes, closes-start, closes-next, closes_end}
 use Rattle.store.proofs.meanings.unscope.Statement.{statement}
 use Rattle.store.proofs.meanings.unscope.Tie as tie
 
@@ -50,10 +50,10 @@ same_length : tie.Need-same-length invariant-loop decreases-loop
 same_length c = c.before.loop.invariant.1 ∙ sym c.before.before.before.before.requires.1
 
 returns : tie.Need-returns invariant-loop decreases-loop
-returns c = record { right = λ g. closes-end g c.before.loop.k c.before.loop.t (omega arith) (c.before.loop.invariant.2 g) }
+returns c = record { right = λ g. closes_end g c.before.loop.k c.before.loop.t (omega arith) (c.before.loop.invariant.2 g) }
 
-pub unscope-spec : {M : Type 1} → statement M
-unscope-spec =
+pub unscope_spec : {M : Type 1} → statement M
+unscope_spec =
     tie.close
     (tie.spec
     invariant-loop

@@ -25,7 +25,7 @@ same_length c = search rules
 returns : tie.Need-returns
 returns c = rw c.again.ensures refl
 
-pub bind-again-spec : {M : Type 1} → statement M
-bind-again-spec =
+pub bind_again_spec : {M : Type 1} → statement M
+bind_again_spec =
     tie.close
     (tie.spec mul-r slice-read-r again-requires mul-binds slice-write-binds same_length returns)

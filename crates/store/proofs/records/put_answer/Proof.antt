@@ -3,7 +3,7 @@ use mathlib.Core.Path.{ap, ◌∙◌}
 use mathlib.Core.List.{[], ◌∷◌}
 use native.Mathlib.Omega.{arith}
 use lib.ListN.{set}
-use Rattle.answer.specs.Records.{nodeWidths}
+use Rattle.answer.specs.Records.{node_widths}
 use Rattle.answer.specs.Laws.{cut_fits}
 use borrow.Author.Rules.{rules}
 use Rattle.store.proofs.records.put_answer.Statement.{statement}
@@ -22,7 +22,7 @@ same_length : tie.Need-same-length
 same_length c = search rules
 
 returns : tie.Need-returns
-returns c = let a = c.before.before.args in ap (set a.w.now a.at) (c.make.ensures ∙ cut_fits nodeWidths (a.class ∷ a.slot ∷ a.id ∷ []) (omega arith, (omega arith, (omega arith, tt))))
+returns c = let a = c.before.before.args in ap (set a.w.now a.at) (c.make.ensures ∙ cut_fits node_widths (a.class ∷ a.slot ∷ a.id ∷ []) (omega arith, (omega arith, (omega arith, tt))))
 
-pub put-answer-spec : {M : Type 1} → statement M
-put-answer-spec = tie.close (tie.spec make-requires mul-w slice-write-w same_length returns)
+pub put_answer_spec : {M : Type 1} → statement M
+put_answer_spec = tie.close (tie.spec make-requires mul-w slice-write-w same_length returns)

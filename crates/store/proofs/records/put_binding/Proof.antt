@@ -3,9 +3,9 @@ use mathlib.Core.Path.{refl, ap, ◌∙◌}
 use mathlib.Core.List.{[], ◌∷◌}
 use native.Mathlib.Omega.{arith}
 use lib.ListN.{set}
-use Rattle.answer.specs.Records.{bindingWidths}
+use Rattle.answer.specs.Records.{binding_widths}
 use Rattle.answer.specs.Laws.{cut_fits}
-use Rattle.store.specs.Words.{bindingWord}
+use Rattle.store.specs.Words.{binding_word}
 use borrow.Author.Rules.{rules}
 use Rattle.store.proofs.records.put_binding.Statement.{statement}
 use Rattle.store.proofs.records.put_binding.Tie as tie
@@ -35,7 +35,7 @@ same_length : tie.Need-same-length
 same_length c = search rules
 
 returns : tie.Need-returns
-unfolding bindingWord
+unfolding binding_word
 returns c =
     let a = c.before.before.before.before.before.before.args in
     let o₁ = c.before.before.before.before.one in
@@ -43,10 +43,10 @@ returns c =
     let o₃ = c.before.before.one3 in
     let o₄ = c.before.one4 in
     let row = a.name ∷ a.source ∷ o₁.result ∷ o₂.result ∷ o₃.result ∷ 0 ∷ o₄.result ∷ a.slot ∷ [] in
-    ap (set a.binds.now a.id) (c.make.ensures ∙ cut_fits bindingWidths row (omega arith, (omega arith, (omega (arith, o₁.ensures), (omega (arith, o₂.ensures), (omega (arith, o₃.ensures), (omega arith, (omega (arith, o₄.ensures), (omega arith, (omega arith, tt))))))))) ∙ (rw (o₁.ensures.0, o₂.ensures.0, o₃.ensures.0, o₄.ensures.0) refl))
+    ap (set a.binds.now a.id) (c.make.ensures ∙ cut_fits binding_widths row (omega arith, (omega arith, (omega (arith, o₁.ensures), (omega (arith, o₂.ensures), (omega (arith, o₃.ensures), (omega arith, (omega (arith, o₄.ensures), (omega arith, (omega arith, tt))))))))) ∙ (rw (o₁.ensures.0, o₂.ensures.0, o₃.ensures.0, o₄.ensures.0) refl))
 
-pub put-binding-spec : {M : Type 1} → statement M
-put-binding-spec =
+pub put_binding_spec : {M : Type 1} → statement M
+put_binding_spec =
     tie.close
     (tie.spec
     one-requires

@@ -25,5 +25,5 @@ same_length c = search rules
 returns : tie.Need-returns
 returns c = let a = c.before.before.args in ap (set a.w.now (10240 + a.e)) (omega (arith, c.make.ensures))
 
-pub put-error-spec : {M : Type 1} → statement M
-put-error-spec = tie.close (tie.spec make-requires add-w mul-w slice-write-w same_length returns)
+pub put_error_spec : {M : Type 1} → statement M
+put_error_spec = tie.close (tie.spec make-requires add-w mul-w slice-write-w same_length returns)

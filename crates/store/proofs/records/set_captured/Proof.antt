@@ -25,8 +25,8 @@ same_length c = search rules
 returns : tie.Need-returns
 returns c = rw c.with-captured.ensures refl
 
-pub set-captured-spec : {M : Type 1} → statement M
-set-captured-spec =
+pub set_captured_spec : {M : Type 1} → statement M
+set_captured_spec =
     tie.close
     (tie.spec
     mul-r

@@ -2,8 +2,8 @@
 use Prim.Native.Nat.{suc, ◌-◌, ◌≤◌}
 use mathlib.Core.Path.{◌≡◌, sym, ap, ◌∙◌}
 use native.Mathlib.Omega.{arith}
-use Rattle.store.specs.Hands.{Slotted, handOf}
-use Rattle.store.proofs.Walked.{Led, led-start, led_on, led-end, bestOf}
+use Rattle.store.specs.Hands.{Slotted, hand_of}
+use Rattle.store.proofs.Walked.{Led, led_start, led_on, led_end, best_of}
 use Rattle.store.proofs.slots.hand.Statement.{statement}
 use Rattle.store.proofs.slots.hand.Tie as tie
 
@@ -29,7 +29,7 @@ loop-holds : tie.Need-loop-init invariant-loop decreases-loop
 loop-holds c =
     let a = c.before.before.before.before.args in
     let led : (g : Slotted a.w.now a.t.now) → Led g.slots a.scope a.id c.wide.result 0 =
-    λ g. rw c.wide.ensures.0 (led-start g.are a.scope a.id c.before.before.before.before.requires.0) in
+    λ g. rw c.wide.ensures.0 (led_start g.are a.scope a.id c.before.before.before.before.requires.0) in
     (omega (arith, (led c.before.before.before.before.requires.3).few, c.before.before.before.before.requires.3.are.few), omega arith, led)
 
 sub-found : tie.Need-overflow-sub-found invariant-loop decreases-loop
@@ -66,7 +66,7 @@ loop-again c =
     (omega (arith, e, (on c.before.before.before.before.before.before.before.before.before.requires.3).0), f.0, λ g. rw e (on g).1)
 
 returns : tie.Need-returns invariant-loop decreases-loop
-returns c = λ g. sym (ap handOf (led-end (omega arith) (c.before.before.loop.invariant.2 g) ∙ ap bestOf c.if1.true))
+returns c = λ g. sym (ap hand_of (led_end (omega arith) (c.before.before.loop.invariant.2 g) ∙ ap best_of c.if1.true))
 
 sub-t7 : tie.Need-overflow-sub-t7 invariant-loop decreases-loop
 sub-t7 c = omega arith
@@ -75,10 +75,10 @@ returns-2 : tie.Need-returns-2 invariant-loop decreases-loop
 returns-2 c =
     let l = c.before.before.loop in
     let z : l.best ≡ suc (l.best - 1) = omega arith in
-    λ g. sym (ap handOf (led-end (omega arith) (l.invariant.2 g) ∙ ap bestOf z))
+    λ g. sym (ap hand_of (led_end (omega arith) (l.invariant.2 g) ∙ ap best_of z))
 
-pub hand-spec : {M : Type 1} → statement M
-hand-spec =
+pub hand_spec : {M : Type 1} → statement M
+hand_spec =
     tie.close
     (tie.spec
     invariant-loop

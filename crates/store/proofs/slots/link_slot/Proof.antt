@@ -57,8 +57,8 @@ same_length c = search rules
 returns : tie.Need-returns
 returns c = search rules
 
-pub link-slot-spec : {M : Type 1} → statement M
-link-slot-spec =
+pub link_slot_spec : {M : Type 1} → statement M
+link_slot_spec =
     tie.close
     (tie.spec
     add-last

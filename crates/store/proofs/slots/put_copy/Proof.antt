@@ -4,7 +4,7 @@ use mathlib.Core.Path.{ap, ◌∙◌}
 use mathlib.Core.List.{[], ◌∷◌}
 use native.Mathlib.Omega.{arith}
 use lib.ListN.{set}
-use Rattle.answer.specs.Records.{copyWidths}
+use Rattle.answer.specs.Records.{copy_widths}
 use Rattle.answer.specs.Laws.{cut_fits}
 use borrow.Author.Rules.{rules}
 use Rattle.store.proofs.slots.put_copy.Statement.{statement}
@@ -26,7 +26,7 @@ same_length : tie.Need-same-length
 same_length c = search rules
 
 returns : tie.Need-returns
-returns c = let a = c.before.before.args in ap (set a.w.now (6144 + a.c)) (c.make.ensures ∙ cut_fits copyWidths (a.scope ∷ a.parent ∷ a.child ∷ []) (omega arith, (omega arith, (omega arith, tt))))
+returns c = let a = c.before.before.args in ap (set a.w.now (6144 + a.c)) (c.make.ensures ∙ cut_fits copy_widths (a.scope ∷ a.parent ∷ a.child ∷ []) (omega arith, (omega arith, (omega arith, tt))))
 
-pub put-copy-spec : {M : Type 1} → statement M
-put-copy-spec = tie.close (tie.spec make-requires add-w mul-w slice-write-w same_length returns)
+pub put_copy_spec : {M : Type 1} → statement M
+put_copy_spec = tie.close (tie.spec make-requires add-w mul-w slice-write-w same_length returns)

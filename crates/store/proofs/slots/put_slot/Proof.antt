@@ -4,8 +4,8 @@ use mathlib.Core.Path.{◌≡◌, ap, ap₂, ◌∙◌}
 use native.Mathlib.Omega.{arith}
 use lib.ListN.{get_or, set, length-set}
 use Rattle.answer.specs.Fields.{changed}
-use Rattle.answer.specs.Records.{pairWidths}
-use Rattle.store.specs.Words.{pairWord}
+use Rattle.answer.specs.Records.{pair_widths}
+use Rattle.store.specs.Words.{pair_word}
 use borrow.Author.Rules.{rules}
 use Rattle.store.proofs.slots.put_slot.Statement.{statement}
 use Rattle.store.proofs.slots.put_slot.Tie as tie
@@ -55,12 +55,12 @@ same_length c = search rules
 returns : tie.Need-returns
 returns c =
     let a = c.before.before.before.before.before.args in
-    let e : c.before.before.make.result ≡ pairWord a.scope a.name = omega (arith, c.before.before.make.ensures) in
+    let e : c.before.before.make.result ≡ pair_word a.scope a.name = omega (arith, c.before.before.make.ensures) in
     ap₂ (λ (x y : ℕ). set (set a.w.now (2048 + a.k) x) (12288 + a.scope) y) e
-    (c.with-slots.ensures ∙ ap (λ (x : ℕ). changed pairWidths 1 (x + 1) (get_or a.w.now (12288 + a.scope) 0)) c.before.slots.ensures.is)
+    (c.with-slots.ensures ∙ ap (λ (x : ℕ). changed pair_widths 1 (x + 1) (get_or a.w.now (12288 + a.scope) 0)) c.before.slots.ensures.is)
 
-pub put-slot-spec : {M : Type 1} → statement M
-put-slot-spec =
+pub put_slot_spec : {M : Type 1} → statement M
+put_slot_spec =
     tie.close
     (tie.spec
     add-n

@@ -31,8 +31,8 @@ same_length c = search rules
 returns : tie.Need-returns
 returns c = rw c.with_params.ensures refl
 
-pub set-param-count-spec : {M : Type 1} → statement M
-set-param-count-spec =
+pub set_param_count_spec : {M : Type 1} → statement M
+set_param_count_spec =
     tie.close
     (tie.spec
     add_r

@@ -33,8 +33,8 @@ write-all-requires c κs = search rules
 returns-2 : tie.Need-returns-2
 returns-2 c = search rules
 
-pub say32-spec : {M : Type 1} → statement M
-say32-spec =
+pub say32_spec : {M : Type 1} → statement M
+say32_spec =
     tie.close
     (tie.spec
     returns

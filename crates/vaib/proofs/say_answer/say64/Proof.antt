@@ -33,8 +33,8 @@ write-all-requires c κs = search rules
 returns-2 : tie.Need-returns-2
 returns-2 c = search rules
 
-pub say64-spec : {M : Type 1} → statement M
-say64-spec =
+pub say64_spec : {M : Type 1} → statement M
+say64_spec =
     tie.close
     (tie.spec
     returns

@@ -44,8 +44,8 @@ loop-again c = search rules
 returns-2 : tie.Need-returns-2 invariant-loop decreases-loop
 returns-2 c = search rules
 
-pub say-lines-spec : {M : Type 1} → statement M
-say-lines-spec =
+pub say_lines_spec : {M : Type 1} → statement M
+say_lines_spec =
     tie.close
     (tie.spec
     invariant-loop

@@ -47,8 +47,8 @@ write-all-requires c κs = search rules
 returns : tie.Need-returns invariant-loop decreases-loop
 returns c = search rules
 
-pub say-nodes-spec : {M : Type 1} → statement M
-say-nodes-spec =
+pub say_nodes_spec : {M : Type 1} → statement M
+say_nodes_spec =
     tie.close
     (tie.spec
     invariant-loop
