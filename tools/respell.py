@@ -40,7 +40,7 @@ def snake(word):
 
 def texts(top):
     for path in sorted((top / "crates").rglob("*")):
-        if path.suffix in (".antt", ".rt", ".edit") and "out" not in path.parts:
+        if path.suffix in (".antt", ".rt", ".edit") and path.relative_to(top / "crates").parts[1] != "out":
             yield path
 
 
