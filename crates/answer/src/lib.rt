@@ -28,7 +28,7 @@ pub const ERRORS: usize = 2048;
 
 // The number given back, and the counts.
 #[repr(C)]
-#[derive(Drop)]
+#[derive(Clone, Copy)]
 pub struct Answer {
     pub number: u64,
     pub bindings: usize,

@@ -14,8 +14,8 @@ abbrev pub end_at : List ℕ → ℕ → ℕ → ℕ
 end_at ns p e = end_in (size_at ns p) p e
 
 -- its own scope, if it is a Def or Lambda
-abbrev pub field_own : List ℕ → ℕ → List ℕ
-field_own ns p = when (is_scope (kind_at ns p)) (value_at ns p)
+abbrev pub own_at : List ℕ → ℕ → List ℕ
+own_at ns p = when (is_scope (kind_at ns p)) (value_at ns p)
 
 module _ (ns : List ℕ) (x p e : ℕ) (inner : List ℕ) where
   pub descend_past : (f : ℕ) → x < p → descend f ns x p e inner ≡ []
@@ -28,7 +28,7 @@ module _ (ns : List ℕ) (x p e : ℕ) (inner : List ℕ) where
     unfolding descend
     descend-next l = rw (le-ltb x p h, le-leb (end_at ns p e) x l)
 
-    pub descend_in : x < end_at ns p e → descend (suc f) ns x p e inner ≡ cond (eqb (end_at ns p e) e) inner [] ++ descend f ns x (p + 1) (end_at ns p e) (field_own ns p)
+    pub descend_in : x < end_at ns p e → descend (suc f) ns x p e inner ≡ cond (eqb (end_at ns p e) e) inner [] ++ descend f ns x (p + 1) (end_at ns p e) (own_at ns p)
     unfolding descend
     descend_in l = rw (le-ltb x p h, lt-leb (end_at ns p e) x l)
 

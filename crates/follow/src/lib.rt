@@ -6,14 +6,14 @@ ghost use Rattle.follow.specs.Place.{copy_of, copies_of, from_of, followed};
 use answer::{LocalSlotId, ScopeId};
 
 // A slot of a scope.
-#[derive(Drop)]
+#[derive(Clone, Copy)]
 pub struct Place {
     pub scope: ScopeId,
     pub slot: LocalSlotId,
 }
 
 // Whether a slot is filled by a copy, and from which slot of the scope outside.
-#[derive(Drop)]
+#[derive(Clone, Copy)]
 pub enum From {
     Parent(LocalSlotId),
     Own,

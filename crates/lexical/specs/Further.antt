@@ -156,7 +156,9 @@ listing_scoped = record { distinct = (two, ((λ m. m), tt)); positive = none }
   where
     two : In 1 (2 ∷ []) → ⊥
     two (inl e) = omega arith
+    two (inr x') = elim x' [ ]
 
     none : In 0 (1 ∷ 2 ∷ []) → ⊥
     none (inl e) = omega arith
     none (inr (inl e)) = omega arith
+    none (inr (inr x'')) = elim x'' [ ]

@@ -159,6 +159,7 @@ in_snoc x y (z ∷ xs) (inr h) = go (in_snoc x y xs h)
     go : In x xs ⊎ (x ≡ y) → ((x ≡ z) ⊎ In x xs) ⊎ (x ≡ y)
     go (inl m) = inl (inr m)
     go (inr e) = inr e
+in_snoc x y [] (inr h) = elim h [ ]
 
 pub distinct_snoc : (x : ℕ) (xs : List ℕ) → Distinct xs → (In x xs → ⊥) → Distinct (xs ++ (x ∷ []))
 distinct_snoc x [] d n = ((λ h. h), tt)
@@ -171,6 +172,7 @@ distinct_snoc x (y ∷ ys) d n = ((λ h. go (in_snoc y x ys h)), distinct_snoc x
 pub in_left : (t : ℕ) (xs ys : List ℕ) → In t xs → In t (xs ++ ys)
 in_left t (x ∷ xs) ys (inl e) = inl e
 in_left t (x ∷ xs) ys (inr m) = inr (in_left t xs ys m)
+in_left t [] ys x' = elim x' [ ]
 
 pub in_right : (t : ℕ) (xs ys : List ℕ) → In t ys → In t (xs ++ ys)
 in_right t [] ys m = m
@@ -187,6 +189,7 @@ distinct_left (x ∷ xs) ys d = ((λ m. d.0 (in_left x xs ys m)), distinct_left 
 pub disjoint : (t : ℕ) (xs ys : List ℕ) → Distinct (xs ++ ys) → In t xs → In t ys → ⊥
 disjoint t (x ∷ xs) ys d (inl e) m = d.0 (in_right x xs ys (rw (← e) m))
 disjoint t (x ∷ xs) ys d (inr n) m = disjoint t xs ys d.1 n m
+disjoint t [] ys d x3 m = elim x3 [ ]
 
 -- k numbers from n on
 unfoldable pub up_from : ℕ → ℕ → List ℕ

@@ -68,6 +68,7 @@ module _ {A : Type 0} (p : A → Bool) (g : A → ℕ) where
   pub chosen_in : (x : ℕ) (xs : List A) → In x (chosen p g xs) → Said x xs
   unfolding chosen
   chosen_in x (y ∷ ys) m = said_first x y ys (p y) refl m (λ n. chosen_in x ys n)
+  chosen_in x [] m = elim m [ ]
 
   in_longer : (x : ℕ) (y : A) (ys : List A) (b : Bool) → In x (chosen p g ys) → In x (cond b (g y ∷ chosen p g ys) (chosen p g ys))
   in_longer x y ys true m = inr m

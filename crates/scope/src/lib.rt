@@ -16,7 +16,7 @@ use answer::Answer;
 use store::{State, sections};
 
 // The walks' end: the state, and the number of module bindings.
-#[derive(Drop)]
+#[derive(Clone, Copy)]
 struct Walked {
     st: State,
     module: usize,

@@ -1,14 +1,14 @@
 // What an identifier comes to, and the state of the walks.
 use answer::{BindingId, LocalSlotId, ModuleSlotId, ScopeId};
 
-#[derive(Drop)]
+#[derive(Clone, Copy)]
 pub enum Slot {
     Module(ModuleSlotId),
     Local(LocalSlotId),
 }
 
 // What an identifier comes to.
-#[derive(Drop)]
+#[derive(Clone, Copy)]
 pub enum Resolution {
     Slot(Slot, BindingId),
     Global(usize),
@@ -17,7 +17,7 @@ pub enum Resolution {
 }
 
 // How much stands in each list, how many functions are around, and whether a list was full.
-#[derive(Drop)]
+#[derive(Clone, Copy)]
 pub struct State {
     pub bindings: usize,
     pub slots: usize,
@@ -28,28 +28,28 @@ pub struct State {
 }
 
 // An identifier's resolution, and the state after it.
-#[derive(Drop)]
+#[derive(Clone, Copy)]
 pub struct Resolved {
     pub st: State,
     pub res: Resolution,
 }
 
 // A local's slot in a scope, and the state after it was brought there.
-#[derive(Drop)]
+#[derive(Clone, Copy)]
 pub struct Brought {
     pub st: State,
     pub slot: LocalSlotId,
 }
 
 // Whether a local stands in a scope already, and where.
-#[derive(Drop)]
+#[derive(Clone, Copy)]
 pub enum Hand {
     At(LocalSlotId),
     Nothing,
 }
 
 // The block that is collected: its scope, its first binding, and whether it binds locals.
-#[derive(Drop)]
+#[derive(Clone, Copy)]
 pub struct Block {
     pub scope: ScopeId,
     pub first: usize,
@@ -57,7 +57,7 @@ pub struct Block {
 }
 
 // What is around a target.
-#[derive(Drop)]
+#[derive(Clone, Copy)]
 pub struct Marks {
     pub in_loop: bool,
     pub load: bool,

@@ -5,7 +5,7 @@ ghost use Rattle.io.specs.Counts.{IsPrefixLen};
 use libc::STDIN_FILENO;
 
 // Whether there was another byte string, and its length.
-#[derive(Drop)]
+#[derive(Clone, Copy)]
 pub struct Read {
     pub more: bool,
     pub length: usize,

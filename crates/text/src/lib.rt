@@ -4,7 +4,7 @@ ghost use Rattle.text.specs.Window.{Begun, Puts, Finished};
 ghost use Rattle.std.specs.Prelude.{[], ◌∷◌};
 
 // How many bytes of the text come before the window still, and how many the window holds.
-#[derive(Drop)]
+#[derive(Clone, Copy)]
 pub struct Cursor {
     pub skip: usize,
     pub at: usize,

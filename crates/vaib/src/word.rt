@@ -1,7 +1,7 @@
 // The words, as they stand on the command line.
 
 // What is made of a node file.
-#[derive(Drop)]
+#[derive(Clone, Copy)]
 pub enum Word {
     List,
     Judge,
@@ -10,7 +10,7 @@ pub enum Word {
 }
 
 // What the command line asks for.
-#[derive(Drop)]
+#[derive(Clone, Copy)]
 pub enum Asked {
     Run(Word),
     Help,

@@ -16,7 +16,7 @@ use answer::{Answer, LocalSlotId};
 
 // A stretch of the file.
 #[repr(C)]
-#[derive(Drop)]
+#[derive(Clone, Copy)]
 pub struct Stretch {
     pub offset: usize,
     pub length: usize,
@@ -24,7 +24,7 @@ pub struct Stretch {
 
 // A slot of a scope, in plain numbers.
 #[repr(C)]
-#[derive(Drop)]
+#[derive(Clone, Copy)]
 pub struct Home {
     pub scope: usize,
     pub slot: usize,

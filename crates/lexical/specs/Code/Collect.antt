@@ -3,7 +3,7 @@ use Rattle.std.specs.Prelude.{◌≡◌, List, [], ◌∷◌, ◌++◌, true, �
 use Rattle.std.proofs.Math.Path.{refl}
 use Rattle.std.proofs.Common.{sym, ◌∙◌, ap, append_assoc, append-nil}
 use Rattle.lexical.specs.Tree.{through, Forest, nil, node, shut, pick, after, loop, load, param, ◌⊕◌}
-use Rattle.lexical.specs.Binders.{Names, Marks, Target, target, head_target, gather, collect, unmarked, looping, targets, Var, merge}
+use Rattle.lexical.specs.Binders.{Names, Marks, Target, target, head_target, gather, collect, unmarked, looping, targets, Var, merge, note}
 
 abbrev pub in_loop : Marks → Marks
 in_loop m = record { loop = true; load = m.load; param = m.param }
@@ -103,7 +103,7 @@ collect_append N m (node at k v kids rest) g = ap (λ l. gather N m (pick k) at 
 pub merge_append : (vs : List Var) (xs ys : List Target) → merge vs (xs ++ ys) ≡ merge (merge vs xs) ys
 unfolding merge
 merge_append vs [] ys = refl
-merge_append vs (t ∷ xs) ys = merge_append _ xs ys
+merge_append vs (t ∷ xs) ys = merge_append (note t vs) xs ys
 
 -- what a Def, a Lambda and a comprehension bind
 pub targets_def : (N : Names) (kids : Forest) → targets N 6 kids ≡ collect N unmarked (after kids)

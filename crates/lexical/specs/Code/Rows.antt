@@ -89,6 +89,7 @@ one_in : (x : ℕ) (l : List ℕ) → In x l → 1 ≤ total (one x) l
 unfolding total one
 one_in x (y ∷ l) (inl e) = rw (← e, eqb_self x) (omega arith)
 one_in x (y ∷ l) (inr m) = omega (arith, one_in x l m)
+one_in x [] x'' = elim x'' [ ]
 
 one_found : (x : ℕ) (l : List Named) → 1 ≤ total (λ (y : Named). one x y.node) l → (j : ℕ) × (y : Named) × (get_elem? l j ≡ some y) × (y.node ≡ x)
 unfolding total one

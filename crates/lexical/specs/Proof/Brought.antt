@@ -26,6 +26,7 @@ Chained chain (s ∷ ss) = (chain s ≡ s ∷ ss) × Chained chain ss
 chained_length : (chain : ℕ → List ℕ) (s : ℕ) (ss : List ℕ) → Chained chain ss → In s ss → length (chain s) ≤ length ss
 chained_length chain s (t ∷ ss) h (inl e) = omega (arith, ap length (ap chain e ∙ h.0))
 chained_length chain s (t ∷ ss) h (inr m) = omega (arith, chained_length chain s ss h.1 m)
+chained_length chain s [] h x'' = elim x'' [ ]
 
 not-around : (chain : ℕ → List ℕ) (s : ℕ) (ss : List ℕ) → Chained chain (s ∷ ss) → In s ss → ⊥
 not-around chain s ss h m = omega (arith, chained_length chain s ss h.1 m, ap length h.0)
@@ -110,6 +111,7 @@ home_in_lem s ss b st m h = record { inside = go h.inside; at_home = h.at_home; 
   where
     go : In b.owner (s ∷ []) → In b.owner ss
     go (inl e) = rw e m
+    go (inr x') = elim x' [ ]
 
 pub bound : (chain : ℕ → List ℕ) (s : ℕ) (ss : List ℕ) (here : chain s ≡ s ∷ ss) (vs : List Var) (st : St) → Fine chain st → Bound chain s st (bind s vs st).0 (bind s vs st).1
 unfolding bind first

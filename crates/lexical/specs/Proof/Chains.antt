@@ -76,10 +76,12 @@ Nested chain (s ∷ ss) = Chained chain (s ∷ ss)
 
 pub nested_chained : (chain : ℕ → List ℕ) (l : List ℕ) → Nested chain l → Chained chain l
 nested_chained chain (s ∷ ss) h = h
+nested_chained chain [] h = elim h [ ]
 
 nested-top : (chain : ℕ → List ℕ) (l : List ℕ) → Nested chain l → (ss : List ℕ) × (chain (top l) ≡ top l ∷ ss) × (chain (top l) ≡ l) × In (top l) l
 unfolding top
 nested-top chain (s ∷ ss) h = (ss, h.0, h.0, inl refl)
+nested-top chain [] h = elim h [ ]
 
 first_cases : {A : Type 0} (p : A → Bool) (xs ys : List A) (a : A) → first p (xs ++ ys) ≡ some a → (first p xs ≡ some a) ⊎ (first p ys ≡ some a)
 first_cases p xs ys a e = go (opened (first p xs)) (sym (first_append p xs ys) ∙ e)

@@ -29,6 +29,7 @@ use Rattle.lexical.specs.Proof.Slots.{both_true}
 not_between : (ss : List ℕ) (b : Binding) → Between b.owner ss b → ⊥
 not_between (s ∷ ss) b (n, inl e) = n (sym e)
 not_between (s ∷ ss) b (n, inr w) = not_between ss b w
+not_between [] b x' = elim x' [ ]
 
 -- a scope has one copy of a binding at most, so one record
 same_place : (s : ℕ) (cs : List Copy) → Distinct (copied s cs) → (i j : ℕ) (c d : Copy) → get_elem? cs i ≡ some c → get_elem? cs j ≡ some d → c.scope ≡ s → d.scope ≡ s → c.id ≡ d.id → i ≡ j
@@ -107,7 +108,7 @@ module _ (F : File) (ok : Scoped F) where
 
   stop_further : (s k p : ℕ) (ss : List ℕ) → from_in s k (resolved F).copies ≡ some p → Stops (resolved F).copies ss p → Stops (resolved F).copies (s ∷ ss) k
   unfolding follow follow_by
-  stop_further s k p ss e h = let z : follow (resolved F).copies (s ∷ ss) k ≡ follow (resolved F).copies ss p = rw e refl in record { within = rw z (inr h.within); unfilled = rw z h.unfilled }
+  stop_further s k p ss e h = let z : follow (resolved F).copies (s ∷ ss) k ≡ follow (resolved F).copies ss p = rw e refl in let Inside : ℕ × ℕ → Type 0 = λ x. In x.0 (s ∷ ss) in record { within = subst Inside (sym z) (inr h.within); unfilled = rw z h.unfilled }
 
   deeper_stops : (b : Bool) (s : ℕ) (ss : List ℕ) → ((k : ℕ) → Stops (resolved F).copies ss k) → (k : ℕ) → Stops (resolved F).copies (cond b (s ∷ ss) ss) k
   deeper_stops false s ss h k = h k

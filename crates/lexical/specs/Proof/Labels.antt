@@ -56,6 +56,7 @@ module _ (F : File) (ok : Scoped F) (apart : Distinct (nodes_in F.root)) where
   unfolding numbered
   has_at-hand S (s ∷ ss) k b n (v, inl e) = (ap (number_of (resolved F).made) v ∙ n, inl e)
   has_at-hand S (s ∷ ss) k b n (v, inr (p, m, h)) = (ap (number_of (resolved F).made) v ∙ n, inr (p, m, has_at-hand S ss p b n h))
+  has_at-hand S [] k b n x'' = elim x'' [ ]
 
   serves : (S : Labelled) → ServesTree F S → (j : ℕ) (e : Event) → get_elem? (resolved F).log j ≡ some e → Serves (numbered (resolved F).made S) e.scopes e.found
   unfolding seen meaning

@@ -1,5 +1,5 @@
 -- The theorems about a whole file: T1 (meaning) and T2 (chain). T3 is in Least.
-use Rattle.std.specs.Prelude.{◌≡◌, false, true, cond, ℕ, eqb}
+use Rattle.std.specs.Prelude.{◌≡◌, false, true, cond, ℕ, eqb, drop}
 use Rattle.std.proofs.Math.Path.{refl, ap}
 use Rattle.std.proofs.Common.{sym, ◌∙◌, subst, arith}
 use mathlib.Core.List.{List, [], ◌∷◌, ◌++◌, map}
@@ -14,7 +14,7 @@ use Rattle.lexical.specs.Meaning.{owned, declares}
 use Rattle.lexical.specs.Order.{steps, fn_blocks, all_names}
 use Rattle.lexical.specs.State.{Event}
 use Rattle.lexical.specs.Block.{called}
-use Rattle.lexical.specs.First.{module_binding, module_bindings, start}
+use Rattle.lexical.specs.First.{entry_slot, module_binding, module_bindings, start}
 use Rattle.lexical.specs.Second.{rows, row_names, second}
 use Rattle.lexical.specs.Third.{hand_in, outermost, resolved}
 use Rattle.lexical.specs.Follow.{from_in, value_in, copied}
@@ -40,7 +40,7 @@ before F = module_names F ++ all_names (fn_blocks F.names F.root)
 source_module : (n : ℕ) (taken : List ℕ) (es : List Entry) (vs : List Var) → source_in n (module_bindings taken es vs) ≡ source n vs
 unfolding source_in source module_bindings module_binding first called map_o
 source_module n taken es [] = refl
-source_module n taken es (v ∷ vs) = map_o_cond _ (eqb v.name n) _ _ ∙ ap (cond (eqb v.name n) (some v.source)) (source_module n _ _ vs) ∙ sym (map_o_cond _ (eqb v.name n) _ _)
+source_module n taken es (v ∷ vs) = map_o_cond _ (eqb v.name n) _ _ ∙ ap (cond (eqb v.name n) (some v.source)) (source_module n (entry_slot es taken ∷ taken) (drop 1 es) vs) ∙ sym (map_o_cond _ (eqb v.name n) _ _)
 
 module_titles : (F : File) → map name_view (start F).named ≡ module_names F
 unfolding start module_names module_vars

@@ -25,11 +25,13 @@ held S t = map (λ (c : ℕ × ℕ). S.value t c.1) (S.copies t)
 copies_held : (S : Scheme) (s p k : ℕ) (cs : List (ℕ × ℕ)) → Copies p k cs → In (S.value s k) (map (λ (c : ℕ × ℕ). S.value s c.1) cs)
 copies_held S s p k (c ∷ cs) (inl e) = inl (ap (S.value s) (sym e.1))
 copies_held S s p k (c ∷ cs) (inr m) = inr (copies_held S s p k cs m)
+copies_held S s p k [] x' = elim x' [ ]
 
 between_held : (S : Scheme) (t : ℕ) (ss : List ℕ) (k : ℕ) (b : Binding) → AtHand S ss k b → Between t ss b → In b.id (held S t)
 between_held S t (s ∷ ss) k b (v, inl e) w = absurd (w.0 e)
 between_held S t (s ∷ ss) k b (v, inr (p, m, a)) (n, inl e) = rw (e, ← v) (copies_held S s p k (S.copies s) m)
 between_held S t (s ∷ ss) k b (v, inr (p, m, a)) (n, inr w) = between_held S t ss p b a w
+between_held S t [] k b x'' w = elim x'' [ ]
 
 needs_held : (S : Scheme) (t i : ℕ) (es : List Event) → All (λ (e : Event). Serves S e.scopes e.found) es → Needs t i es → In i (held S t)
 needs_held S t i es h (j, e, q, n) = let r = needing (λ b k. (j : ℕ) × AtHand S e.scopes j b) t i e.scopes e.found (h j e q) n in

@@ -1,5 +1,5 @@
 -- The module's bindings: one for each variable, in order, each at its number.
-use Rattle.std.specs.Prelude.{◌≡◌, refl, List, [], ◌∷◌, map, false, ℕ, zero, suc, ◌+◌, length}
+use Rattle.std.specs.Prelude.{◌≡◌, refl, List, [], ◌∷◌, map, false, ℕ, zero, suc, ◌+◌, length, drop}
 use Rattle.std.proofs.Common.{sym, ◌∙◌, ap, subst, arith}
 use Rattle.std.proofs.Math.Option.{some}
 use Rattle.std.proofs.Math.ListN.{get_elem?}
@@ -15,7 +15,7 @@ use Rattle.lexical.specs.First.{entry_slot, module_binding, module_bindings}
 pub module_vars_lem : (taken : List ℕ) (es : List Entry) (vs : List Var) → map (λ (b : Binding). b.var) (module_bindings taken es vs) ≡ vs
 unfolding module_bindings module_binding
 module_vars_lem taken es [] = refl
-module_vars_lem taken es (v ∷ vs) = ap (λ l. v ∷ l) (module_vars_lem _ _ vs)
+module_vars_lem taken es (v ∷ vs) = ap (λ l. v ∷ l) (module_vars_lem (entry_slot es taken ∷ taken) (drop 1 es) vs)
 
 pub module_length : (taken : List ℕ) (es : List Entry) (vs : List Var) → length (module_bindings taken es vs) ≡ length vs
 module_length taken es vs = sym (length-map (module_bindings taken es vs) (λ (b : Binding). b.var)) ∙ ap length (module_vars_lem taken es vs)

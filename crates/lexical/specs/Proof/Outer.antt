@@ -85,6 +85,7 @@ place_none n (x ∷ l) e m = go (tested (eqb x n)) (opened (place n l)) e m (λ 
     go (wasnt t) (present j p) z m rec = none-some {a = suc j} {o = cond (eqb x n) (some 0) (map_o suc (place n l))} z (rw (t, p) refl)
     go (wasnt t) (absent p) z (inl q) rec = eqb-false x n t (sym q)
     go (wasnt t) (absent p) z (inr m) rec = rec p m
+place_none n [] e m = elim m [ ]
 
 beyond_global : (x y : Option ℕ) (g : ℕ) → beyond x y ≡ global g → (x ≡ none) × (y ≡ some g)
 unfolding beyond globally

@@ -27,6 +27,7 @@ table_lambda (node at k v kids rest) e = λ q. go (among _ (k ∷ kinds rest) e 
     go : ((17 ≤ k) × (k ≤ 17)) ⊎ (((11 ≤ k) × (k ≤ 14)) ⊎ ⊥) → k ≡ 8 → ⊥
     go (inl h) q = omega arith
     go (inr (inl h)) q = omega arith
+    go (inr (inr x4)) q = elim x4 [ ]
 
 -- the other kinds open no block
 none_other : {k : ℕ} (n : ℕ) → k ≡ n → (is_fn (way n) || is_compr (way n)) ≡ false → (is_fn (way k) || is_compr (way k)) ≡ true → ⊥

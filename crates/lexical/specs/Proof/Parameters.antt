@@ -34,6 +34,7 @@ dropped_one lo hi k (x ∷ ks) m = go (tested (within lo hi x)) m
     go (was t) (inl e) = inl (rw e (in_range lo hi x t))
     go (was t) (inr z) = inr (rw t z)
     go (wasnt t) z = inr (rw t z)
+dropped_one lo hi k [] m = elim m [ ]
 
 dropped_many : (lo hi k : ℕ) (ks : List ℕ) → In k ks → ((lo ≤ k) × (k ≤ hi)) ⊎ In k (drop_many lo hi ks)
 unfolding drop_many
@@ -43,6 +44,7 @@ dropped_many lo hi k (x ∷ ks) m = go (tested (within lo hi x)) m (λ z. droppe
     go (was t) (inl e) rec = inl (rw e (in_range lo hi x t))
     go (was t) (inr z) rec = rw t (rec z)
     go (wasnt t) z rec = inr (rw t z)
+dropped_many lo hi k [] m = elim m [ ]
 
 either_way : {A B C : Type 0} → A ⊎ B → (B → C) → A ⊎ C
 either_way (inl a) h = inl a
@@ -54,11 +56,13 @@ among [] (x ∷ ks) e k m = let z : ◌≡◌ {A = ℕ} 0 1 = cc in omega arith
 among (one lo hi ∷ is) ks e k m = either_way (dropped_one lo hi k ks m) (λ z. among is (drop_one lo hi ks) (both_true (head_in lo hi ks) _ e).1 k z)
 among (opt lo hi ∷ is) ks e k m = either_way (dropped_one lo hi k ks m) (λ z. among is (drop_one lo hi ks) e k z)
 among (many lo hi ∷ is) ks e k m = either_way (dropped_many lo hi k ks m) (λ z. among is (drop_many lo hi ks) e k z)
+among [] [] e k m = elim m [ ]
 
 -- what stands behind a Param's Name gives no targets
 shut_behind : (k : ℕ) → Among (opt 18 18 ∷ opt 11 14 ∷ []) k → pick k ≡ shut
 shut_behind k (inl h) = let e : k ≡ 18 = omega arith in rw e (unfold pick in refl)
 shut_behind k (inr (inl h)) = expr_shut k h.0 h.1
+shut_behind k (inr (inr x'')) = elim x'' [ ]
 
 all_shut : (f : Forest) → ((k : ℕ) → In k (kinds f) → pick k ≡ shut) → Exprs f
 unfolding kinds Exprs
@@ -158,6 +162,7 @@ lambda_params N kids e h d = let y = params-first (collect N unmarked kids) kids
   where
     no17 : Among (one 11 14 ∷ []) 17 → ⊥
     no17 (inl r) = omega arith
+    no17 (inr x') = elim x' [ ]
 
 pub def_params : (N : Names) (kids : Forest) → allowed 6 (kinds kids) ≡ true → Tabled kids → Distinct (param_names kids) → ParamsFirst N 6 kids
 unfolding allowed row matches kinds head_in drop_one Tabled targets after param_names params
@@ -167,6 +172,7 @@ def_params N (node a j n more rest) e h d = go (both_true (within 8 8 j) _ e)
     no17 : Among (opt 18 18 ∷ one 0 7 ∷ []) 17 → ⊥
     no17 (inl r) = omega arith
     no17 (inr (inl r)) = omega arith
+    no17 (inr (inr x5)) = elim x5 [ ]
 
     go : (within 8 8 j ≡ true) × (matches (many 17 17 ∷ opt 18 18 ∷ one 0 7 ∷ []) (cond (within 8 8 j) (kinds rest) (j ∷ kinds rest)) ≡ true)
         → ParamsFirst N 6 (node a j n more rest)

@@ -17,6 +17,7 @@ without_length x (y ∷ ys) m = go (tested (eqb x y)) m (λ z. without_length x 
     go (was e) m rec = rw e refl
     go (wasnt e) (inl q) rec = absurd (eqb-false x y e q)
     go (wasnt e) (inr m) rec = rw e (ap suc (rec m))
+without_length x [] m = elim m [ ]
 
 without_keeps : (x t : ℕ) (ys : List ℕ) → In t ys → (t ≡ x → ⊥) → In t (without x ys)
 unfolding without
@@ -27,6 +28,7 @@ without_keeps x t (y ∷ ys) m n = go (tested (eqb x y)) m (λ z. without_keeps 
     go (was e) (inr m) rec = rw e m
     go (wasnt e) (inl q) rec = rw e (inl q)
     go (wasnt e) (inr m) rec = rw e (inr (rec m))
+without_keeps x t [] m n = elim m [ ]
 
 pub at_most : (xs ys : List ℕ) → Distinct xs → ((t : ℕ) → In t xs → In t ys) → length xs ≤ length ys
 at_most [] ys d h = omega arith
@@ -61,6 +63,7 @@ without_in x t (y ∷ ys) m = go (tested (eqb x y)) m (λ z. without_in x t ys z
         later : (t ≡ y) ⊎ In t (without x ys) → (t ≡ y) ⊎ In t ys
         later (inl q) = inl q
         later (inr m) = inr (rec m)
+without_in x t [] m = elim m [ ]
 
 without_distinct : (x : ℕ) (ys : List ℕ) → Distinct ys → Distinct (without x ys) × (In x (without x ys) → ⊥)
 unfolding without

@@ -1,6 +1,6 @@
 -- Every Name's row, by the nodes around the Name: the binding that its block makes of its name. And every local is the binding of the Name that declares it.
 use Rattle.std.proofs.Math.Path.{◌≡◌, sym, ap, subst}
-use Rattle.std.specs.Prelude.{refl, ◌⊎◌, cond, ◌&&◌, ℕ, zero, suc, ◌+◌, length}
+use Rattle.std.specs.Prelude.{refl, ◌⊎◌, cond, ◌&&◌, ℕ, zero, suc, ◌+◌, length, drop}
 use Rattle.std.proofs.Common.{◌∙◌, inl, inr}
 use mathlib.Core.List.{List, [], ◌∷◌, ◌++◌, map}
 use Rattle.std.proofs.Math.Bool.{true, false}
@@ -17,7 +17,7 @@ use Rattle.lexical.specs.Module.{Entry, File, entry_var, module_vars}
 use Rattle.lexical.specs.Meaning.{declares}
 use Rattle.lexical.specs.State.{Binding, Named, St}
 use Rattle.lexical.specs.Block.{new, add, bind, called, name_of, naming, block}
-use Rattle.lexical.specs.First.{module_binding, module_bindings, start}
+use Rattle.lexical.specs.First.{entry_slot, module_binding, module_bindings, start}
 use Rattle.lexical.specs.Third.{copy_in, logged, resolved}
 use Rattle.lexical.specs.Claims.{source}
 use Rattle.lexical.specs.Blocks.{Block, of_module, of_scope, block_around, source_of, BoundIn, module_targets}
@@ -42,7 +42,7 @@ bind_var n s (v ∷ vs) st = map_o_cond _ (eqb v.name n) _ _ ∙ ap (cond (eqb v
 pub module_var : (n : ℕ) (taken : List ℕ) (es : List Entry) (vs : List Var) → map_o (λ (b : Binding). b.var) (first (called n) (module_bindings taken es vs)) ≡ var_of n vs
 unfolding module_bindings module_binding first called map_o var_of
 module_var n taken es [] = refl
-module_var n taken es (v ∷ vs) = map_o_cond _ (eqb v.name n) _ _ ∙ ap (cond (eqb v.name n) (some v)) (module_var n _ _ vs)
+module_var n taken es (v ∷ vs) = map_o_cond _ (eqb v.name n) _ _ ∙ ap (cond (eqb v.name n) (some v)) (module_var n (entry_slot es taken ∷ taken) (drop 1 es) vs)
 
 -- a block's are locals of its scope
 abbrev Local : ℕ → Binding → Type 0
