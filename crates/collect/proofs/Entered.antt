@@ -20,13 +20,13 @@ use Rattle.store.specs.Blocks.{local_block}
 use Rattle.nodefile.specs.Valid.{Valid}
 use Rattle.target.specs.Target.{BlockIs, marks_of}
 use Rattle.target.specs.Blocks.{over_more}
-use Rattle.target.specs.Whole.{block-range, block-is, Block-none, opens, closes}
+use Rattle.target.specs.Whole.{block-range, block-is, block_none, opens, closes}
 use Rattle.collect.specs.Cycle.{Ghost, Done}
 
 -- where a list is full it stays so
 pub full_block : {W : World} {env : List Binding} {ss : List ℕ} {st : St} {s : State} {m : Mem} (k : ℕ) (ts : List Target) → R W env ss st s m → s.full ≡ true → R W env ss (block k ts st).1 s m
 full_block {st = st} k ts r e = record {
-  over = λ f. rw (block-is k ts st) (over_more (local_block k st) [] ts (rw (Block-none k st) (r.over f)));
+  over = λ f. rw (block-is k ts st) (over_more (local_block k st) [] ts (rw (block_none k st) (r.over f)));
   rel = λ f. absurd (true≢false (sym e ∙ f));
 }
 

@@ -25,7 +25,7 @@ use Rattle.nodefile.specs.FileOf.{file_of, entry_of}
 use Rattle.nodefile.specs.FileLaws.{entries_count, entries_at}
 use Rattle.nodefile.specs.Valid.{Valid}
 use Rattle.store.specs.Blocks.{module_block, nothing, placed, vars_of, bindings_of, block_st}
-use Rattle.target.specs.Placed.{placed_at_lem}
+use Rattle.target.specs.Placed.{placed_at}
 use Rattle.target.specs.Entries.{unsettled, facts_module, start_is}
 use Rattle.note.specs.Noted.{ListsOk}
 use Rattle.scope.specs.Ready.{Ready}
@@ -53,7 +53,7 @@ module_slot_lem F h k b e l =
     let E = module_block F in
     let ts = collect F.names unmarked F.root in
     let q : get_elem? (bindings_of E ts) k ≡ some b = subst (λ (l : List Binding). get_elem? l k ≡ some b) (ap (λ (s : _). s.made) (start_is F)) e in
-    let (v, a, p) = map_o_some (placed E k) (get_elem? (vars_of E ts) k) b (sym (placed_at_lem E (vars_of E ts) k) ∙ q) in
+    let (v, a, p) = map_o_some (placed E k) (get_elem? (vars_of E ts) k) b (sym (placed_at E (vars_of E ts) k) ∙ q) in
     subst (λ (x : Binding). x.slot < 32768) p (unfold placed in (facts_module (unsettled F [] (λ _. []) (λ _. 0)) F h).slot_small refl k l)
 
 -- a name and its source
