@@ -21,7 +21,7 @@ overflow_mul-acc c = omega (arith, below c)
 pub overflow_add-acc : goal.overflow_add-acc
 overflow_add-acc c =
     let a = c.args in
-    omega (arith, below c.before, c.bit.ensures, bit_lt a.s.now (a.at + c.loop-k.k))
+    omega (arith, field_lt_32 a.s.now a.at c.loop-k.k (omega arith), c.loop-k.invariant.1, c.bit.ensures, bit_lt a.s.now (a.at + c.loop-k.k))
 
 pub loop-k-preserved : goal.loop-k-preserved
 unfolding field_of

@@ -6,13 +6,9 @@ use lib.Pow.{pow_pos}
 use Rattle.bits.specs.Digits.{splice, splice_byte}
 use Rattle.bits.proofs.spliced.Goals as goal
 
--- each part of the sum is below 256, as the sum is
-whole : (c : goal.After-power-low) → let a = c.args in splice a.b a.n a.j a.v < 256
-whole c = let a = c.args in splice_byte a.b a.n a.j a.v (omega arith) (omega arith)
-
 pub overflow_cast-result : goal.overflow_cast-result
 unfolding splice
-overflow_cast-result c = rw (c.power.ensures, c.power-low.ensures, c.power-top.ensures) (omega (arith, whole c.before))
+overflow_cast-result c = rw (c.power.ensures, c.power-low.ensures, c.power-top.ensures) (omega (arith, splice_byte c.args.b c.args.n c.args.j c.args.v (omega arith) (omega arith)))
 
 pub returns : goal.returns
 unfolding splice
