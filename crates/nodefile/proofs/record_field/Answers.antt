@@ -10,11 +10,6 @@ use Rattle.bits.specs.FieldLaws.{field_record, field_past, field_read}
 use borrow.Author.Rules.{rules}
 use Rattle.nodefile.proofs.record_field.Goals as goal
 
-inside : (c : goal.Else-k-list) → c.args.bytes * c.args.k ≤ length c.args.list.now
-inside c =
-    let a = c.args in
-    rw (mul_comm a.bytes a.k) ((le-div_iff_mul-le c.requires.0).0 c.if-k-list.false)
-
 pub returns-then-k-list : goal.returns-then-k-list
 returns-then-k-list c =
     let a = c.args in

@@ -2,20 +2,20 @@
 -- Assumes nothing.
 use Prim.Native.Nat.{ℕ, ◌-◌, ◌≤◌}
 use mathlib.Core.Path.{sym, ap, ◌∙◌}
-use mathlib.Core.Logic.{⊎_elim}
 use native.Mathlib.Omega.{arith}
 use Rattle.nodefile.specs.Layout.{node_count, nodes_of}
 use Rattle.nodefile.specs.Listed.{is_scope, kind_at}
 use Rattle.nodefile.proofs.Counted.{Counted, counted_none, counted-one, counted-not, counted_end}
 use Rattle.nodefile.proofs.node.scope_count.Goals as goal
+use Rattle.nodefile.proofs.node.scope_count.Goals.{then-is_scope, else-is_scope}
 
 pub loop-i-init : goal.loop-i-init
 loop-i-init c = (omega arith, counted_none _)
 
 pub loop-i-preserved : goal.loop-i-preserved
 loop-i-preserved c =
+    let e = ap is_scope (sym c.kind.ensures.is) ∙ sym c.is_scope.ensures in
     (
       omega (arith, c.node_count-n.ensures.is),
-      let e = ap is_scope (sym c.kind.ensures.is) ∙ sym c.is_scope_lem.ensures in
-          ⊎_elim (λ w. rw w.1 (counted-one c.loop-i.invariant.1 (e ∙ w.0.taken))) (λ w. rw w.1 (counted-not c.loop-i.invariant.1 (e ∙ w.0.left))) c.if-is_scope.branch,
+      elim c.if-is_scope.branch [ then-is_scope w ↦ rw w.s-is (counted-one c.loop-i.invariant.1 (e ∙ w.if-is_scope.true)) | else-is_scope w ↦ rw w.s-is (counted-not c.loop-i.invariant.1 (e ∙ w.if-is_scope.false)) ],
     )
