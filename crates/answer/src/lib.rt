@@ -1,5 +1,7 @@
 // Document 01's answer: the numbers that are counted apart, the counts, the buffers' full lengths, and the fields of every record.
 // A record is one number; each has a module with a reader of each field and its writers. Any number is taken.
+#![tactic(auto)]
+
 pub mod binding;
 pub mod copy;
 pub mod entry;

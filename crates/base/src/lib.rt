@@ -1,4 +1,6 @@
 // What belongs to no layer.
+#![tactic(auto)]
+
 ghost use Rattle.std.specs.Prelude.{◌≡◌, take, drop};
 
 // The stretch of len bytes that starts at byte at, or as much of it as there is.

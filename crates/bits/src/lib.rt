@@ -1,4 +1,6 @@
 // Packed fields, most significant bit first: reading one, and writing one.
+#![tactic(auto)]
+
 ghost use Rattle.std.specs.Prelude.{◌≡◌, ◌+◌, ◌*◌, ◌/◌, ◌^◌, ◌≤◌, ◌<◌, length};
 ghost use Rattle.bits.specs.Field.{bit_of, field_of, Field};
 ghost use Rattle.bits.specs.Digits.{splice};

@@ -1,4 +1,6 @@
 // Numbers 2, 3 and 4: the header, and the length of the file.
+#![tactic(auto)]
+
 ghost use Rattle.base.specs.Says.{Says};
 ghost use Rattle.base.specs.First.{First};
 ghost use Rattle.header.specs.Header.{BadHeader, BadCounts, BadLength, header_rows};

@@ -4,6 +4,8 @@
 // shorter names, since the checker names the proof of a cycle after all of its members.
 // `idents_in_clause` is its `resolve_idents_in_for_clause`, and what it does at an IfClause;
 // `idents_in_param` is what its `resolve_idents_in_def` does at a parameter.
+#![tactic(auto)]
+
 ghost use Rattle.std.specs.Prelude.{◌≡◌, true, false, ◌+◌, ◌*◌, ◌≤◌, ◌<◌, length};
 ghost use Rattle.store.specs.Sections.{mem, many_nodes};
 ghost use Rattle.idents.specs.Cycle.{Pre, Pre1, PreKind, PreDef, Done, DoneAny, Parted, LastAt};

@@ -1,4 +1,6 @@
 // Judging a node file: the first of the numbers 2 to 11 whose condition holds, or 0; and the spelling of a name.
+#![tactic(auto)]
+
 ghost use Rattle.judge.specs.Cond.{Judged};
 ghost use Rattle.judge.specs.Spelling.{Spelling};
 

@@ -1,5 +1,7 @@
 // Judges each file of a fixed list on standard input and holds the answer against the one that the list gives.
 // The list: how many cases, 4 bytes; then for each its answer, 1 byte, its length, 4 bytes, and its bytes, at most 65,536.
+#![tactic(auto)]
+
 ghost use Rattle.std.specs.Prelude.{◌≤◌, ◌<◌};
 
 use libc::{STDIN_FILENO, STDOUT_FILENO};

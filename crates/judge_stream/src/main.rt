@@ -1,5 +1,7 @@
 // Judges a stream of files on standard input, each preceded by its length (4 bytes, most significant first): a line with its number for each.
 // It ends with the stream, or at a file of more than 65,536 bytes.
+#![tactic(auto)]
+
 use libc::STDOUT_FILENO;
 
 // Judges the next file; false at the end.

@@ -1,4 +1,6 @@
 // Judges the node file on standard input and writes `answer N`.
+#![tactic(auto)]
+
 use libc::{STDIN_FILENO, STDOUT_FILENO};
 
 // A file longer than any that is accepted has the answer of its first 65,536 bytes (`judged_front`, crate judge).

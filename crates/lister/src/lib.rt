@@ -1,4 +1,6 @@
 // A file's listing on standard output, a window at a time, since a listing may be longer than any buffer.
+#![tactic(auto)]
+
 use libc::STDOUT_FILENO;
 
 const WINDOW: usize = 65536;

@@ -1,4 +1,6 @@
 // Cells that mark the numbers met so far (specs/Marks), and what a cell or a byte holds as a place.
+#![tactic(auto)]
+
 ghost use Rattle.std.specs.Prelude.{◌≡◌, ◌<◌};
 
 pub fn byte(x: u8) -> usize

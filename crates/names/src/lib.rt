@@ -1,4 +1,6 @@
 // Numbers 5 and 6: the names, and the lists of names.
+#![tactic(auto)]
+
 mod lists;
 mod names;
 

@@ -1,4 +1,6 @@
 // The node file: reading its fields and its parts. Every function takes any bytes.
+#![tactic(auto)]
+
 pub mod kinds;
 pub mod node;
 

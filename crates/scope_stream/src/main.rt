@@ -1,6 +1,8 @@
 // Lists a stream of files on standard input, each preceded by its length (4 bytes, most significant first): for each its listing, then a line for
 // each Name (`N node M|L slot binding`) and for each slot in order of making (`T scope name`), then the byte 255 four times.
 // It ends with the stream, or at a file of more than 65,536 bytes.
+#![tactic(auto)]
+
 use libc::STDOUT_FILENO;
 
 fn say(text: &[u8]) {

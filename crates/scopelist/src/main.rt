@@ -1,4 +1,6 @@
 // Lists the node file on standard input: document 01's listing, or `answer N` alone.
+#![tactic(auto)]
+
 use libc::STDIN_FILENO;
 
 // A file longer than any that is accepted has the answer of its first 65,536 bytes (`judged_front`, crate judge).

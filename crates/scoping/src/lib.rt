@@ -1,4 +1,6 @@
 // Numbers 9 to 11: depth, the scope numbers, and the parameters of each scope.
+#![tactic(auto)]
+
 mod depth;
 mod params;
 mod scopes;

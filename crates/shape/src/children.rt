@@ -58,6 +58,7 @@ const PARAM_ROW: u64 = 17210693800200;
 const TYPE_ROW: u64 = 258507;
 
 // The code of the row of a kind.
+#[tactic(auto, unfolding(lexical::specs::Table::row))]
 fn code(kind: u64) -> u64
     requires { kind < 19 }
     ensures { result ≡ code_of (row kind) }

@@ -1,4 +1,6 @@
 // Numbers 7 and 8: the nodes, each by its own fields and by its children.
+#![tactic(auto)]
+
 mod children;
 mod nodes;
 

@@ -1,4 +1,6 @@
 // Lists of numbers as bytes, one element after the other, most significant byte first: what `vaib answer` writes.
+#![tactic(auto)]
+
 ghost use Rattle.std.specs.Prelude.{◌≡◌, ◌+◌, ◌*◌, ◌≤◌, length};
 ghost use Rattle.sheet.specs.Laid.{Laid};
 

@@ -1,5 +1,7 @@
 // The store of the walks: the bindings' records and the working lists w and t, and the reads and stores of them that the walks make; `sections` says what stands where.
 // Each function here touches one section or two; what a step of the walks does to all of them is said and proved above.
+#![tactic(auto)]
+
 mod ids;
 mod meanings;
 mod records;

@@ -1,4 +1,6 @@
 // A stream of byte strings on standard input, each preceded by its length (4 bytes, most significant first).
+#![tactic(auto)]
+
 ghost use Rattle.std.specs.Prelude.{◌≡◌};
 ghost use Rattle.io.specs.Counts.{IsPrefixLen};
 

@@ -1,4 +1,6 @@
 // The program for people and scripts: `vaib WORD < FILE`, a node file on standard input. Each word has a file of its own; `usage` has them all.
+#![tactic(auto)]
+
 mod say_answer;
 mod say_judge;
 mod say_list;

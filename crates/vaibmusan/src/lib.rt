@@ -1,5 +1,7 @@
 // Vaibmusan for C and for Rust: include/vaibmusan.h says the same in words. A slice is a pointer and a length; what takes more than
 // a word is written through a reference, by a function that only calls another and stores its result.
+#![tactic(auto)]
+
 ghost use Rattle.std.specs.Prelude.{◌≡◌, length};
 ghost use Rattle.judge.specs.Cond.{Judged};
 ghost use Rattle.answer.specs.Buffers.{buffers};
