@@ -14,8 +14,7 @@ loop-i-init c = (omega arith, counted_none _)
 
 pub loop-i-preserved : goal.loop-i-preserved
 loop-i-preserved c =
-    let e = ap is_scope (sym c.kind.ensures.is) ∙ sym c.is_scope.ensures in
-    (
+    let e = ap is_scope (sym c.kind.ensures.is) ∙ sym c.is_scope.ensures in (
       omega (arith, c.node_count-n.ensures.is),
       elim c.if-is_scope.branch [ then-is_scope w ↦ rw w.s-is (counted-one c.loop-i.invariant.1 (e ∙ w.if-is_scope.true)) | else-is_scope w ↦ rw w.s-is (counted-not c.loop-i.invariant.1 (e ∙ w.if-is_scope.false)) ],
     )

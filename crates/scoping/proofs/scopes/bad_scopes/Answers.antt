@@ -13,21 +13,21 @@ loop-t-init c = noting_none _ c.requires.2
 pub returns-then-v-eq0 : goal.returns-then-v-eq0
 returns-then-v-eq0 c =
     let loop' = c.loop-t in
-    let scope' = ap has_scope (sym c.kind.ensures.is) ∙ sym c.is_scope_lem.ensures ∙ c.if-is_scope.true in
+    let scope' = ap has_scope (sym c.kind.ensures.is) ∙ sym c.is_scope.ensures ∙ c.if-is_scope.true in
     (noting_zero loop'.invariant (omega arith) c.value-v.ensures.is scope' c.if-v-eq0.true, λ e. absurd (true≢false e))
 
 pub returns-then-v-gt255 : goal.returns-then-v-gt255
 returns-then-v-gt255 c =
     let loop' = c.loop-t in
     let kind' = c.kind in
-    let scope' = ap has_scope (sym kind'.ensures.is) ∙ sym c.is_scope_lem.ensures ∙ c.if-is_scope.true in
+    let scope' = ap has_scope (sym kind'.ensures.is) ∙ sym c.is_scope.ensures ∙ c.if-is_scope.true in
     (noting_high loop'.invariant (omega arith) c.value-v.ensures.is scope' (omega arith), λ e. absurd (true≢false e))
 
 pub returns-then-found-v-ne0 : goal.returns-then-found-v-ne0
 returns-then-found-v-ne0 c =
     let loop' = c.loop-t in
     let kind' = c.kind in
-    let is-scope' = c.is_scope_lem in
+    let is-scope' = c.is_scope in
     let if1' = c.if-is_scope in
     let scope' = ap has_scope (sym kind'.ensures.is) ∙ sym is-scope'.ensures ∙ if1'.true in
     (noting_twice loop'.invariant (omega arith) c.value-v.ensures.is scope' c.if-found-v-ne0.true, λ e. absurd (true≢false e))
@@ -37,7 +37,7 @@ loop-t-preserved-then-is_scope c =
     let loop' = c.loop-t in
     let value' = c.value-v in
     let kind' = c.kind in
-    let is-scope' = c.is_scope_lem in
+    let is-scope' = c.is_scope in
     let if1' = c.if-is_scope in
     let scope' = ap has_scope (sym kind'.ensures.is) ∙ sym is-scope'.ensures ∙ if1'.true in
     noting_more loop'.invariant (omega arith) value'.ensures.is scope' (omega arith) (omega arith) c.if-found-v-ne0.false c.larger-top.ensures
@@ -45,7 +45,7 @@ loop-t-preserved-then-is_scope c =
 pub loop-t-preserved : goal.loop-t-preserved
 loop-t-preserved c =
     let loop' = c.loop-t in
-    let plain' = ap has_scope (sym c.kind.ensures.is) ∙ sym c.is_scope_lem.ensures ∙ c.if-is_scope.false in
+    let plain' = ap has_scope (sym c.kind.ensures.is) ∙ sym c.is_scope.ensures ∙ c.if-is_scope.false in
     noting_skip loop'.invariant (omega arith) plain'
 
 pub returns-then-count-top : goal.returns-then-count-top
