@@ -24,7 +24,7 @@ THEOREMS = ("Theorems", "Whole")
 LEMMAS = {("readers", "proofs/Whole")}  # a file of lemmas that has such a name
 THEORY = ("lexical",)  # no bytes: its theorems are said again of them
 # words in backquotes that are no definitions: the kit's
-KIT = {"requires", "ensures", "read", "write", "axioms=2", "extern"}
+KIT = {"requires", "ensures", "axioms"}
 
 PLACES = ("specs", "proofs")  # where a file of definitions or theorems may stand
 USE = re.compile(r"^(?:ghost |pub )*use Rattle\.(\w+)\.(specs|proofs)\.([\w.]+?)(?:\.\{(.*)\}| as (\w+));?$")
