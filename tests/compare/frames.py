@@ -24,7 +24,7 @@ from files.corners import corners  # noqa: E402
 from files.generate import KINDS_HELP, chosen  # noqa: E402
 from readings import mirror, second_judge  # noqa: E402
 from readings.lexical import Way, targets, way  # noqa: E402
-from readings.meaning import declared, declares, sitesOf  # noqa: E402
+from readings.meaning import declared, declares, sites_of  # noqa: E402
 from words.answer import rows  # noqa: E402
 from words.plan import FIRST, Frame  # noqa: E402
 
@@ -40,7 +40,7 @@ class Box:
 def variables(F):
     """For each local Name and Ident the Name that declares what it means."""
     found = {}
-    for site in sitesOf(F):
+    for site in sites_of(F):
         if local := declared(site.name, site.above):
             found[site.node] = local[1]
     waiting = list(F.root)

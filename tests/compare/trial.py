@@ -4,7 +4,7 @@
 For each of some random files (files/grow.py) a theorem is written, proved by `refl`: the records that the definitions
 compute are those of the oracle's full listing. Every column is compared: bindings, module entries afterwards, scopes,
 slots, copies, Names, Idents, errors; Names and Idents, which the oracle lists in node order, in the order of the
-mirror's records. The theorems are checked in a scratch copy of the crate (`rt dev`). The last line counts; the exit
+mirror's records. The theorems are checked in a scratch copy of the crate (`rt check`). The last line counts; the exit
 status is 1 if any differ.
 """
 
@@ -32,13 +32,11 @@ LEAST = 8            # nodes of a file, at least
 FROM_MODULE = 65535  # the source of a binding that an entry made
 
 HEAD = """-- Random files and their records, from the oracle.
-use mathlib.Core.Path.{_≡_, refl}
-use mathlib.Core.List.{List, [], _∷_}
-use mathlib.Core.Bool.{Bool, true, false}
-use Rattle·lexical·specs.specs.Tree.{Forest, nil, node}
-use Rattle·lexical·specs.specs.Module.{Entry, File}
-use Rattle·lexical·specs.specs.Records.{Records, records}
-use Rattle·lexical·specs.specs.Examples.{file}
+use Rattle.std.specs.Prelude.{◌≡◌, refl, List, [], ◌∷◌, Bool, true, false}
+use Rattle.lexical.specs.Tree.{Forest, nil, node}
+use Rattle.lexical.specs.Module.{Entry, File}
+use Rattle.lexical.specs.Records.{Records, records}
+use Rattle.lexical.PLACE.Examples.{file}
 """
 
 THEOREM = """
@@ -156,11 +154,13 @@ def scratch_copy(folder, theorems):
     wanted = [CRATE]
     for name in wanted:
         wanted += [below for below in lines[name].split() if below in lines and below not in wanted]
-        shutil.copytree(TOP / "crates" / name, folder / "crates" / name)
+        shutil.copytree(TOP / "crates" / name, folder / "crates" / name, ignore=shutil.ignore_patterns("out"))
     (folder / "crates.txt").write_text("".join(f"{name}:{lines[name]}\n" for name in lines if name in wanted))
-    specs = folder / "crates" / CRATE / "specs"
-    (specs / "Trial.antt").write_text(HEAD + "".join(theorems))
-    with open(specs / "Lib.antt", "a") as lib:
+    # beside the examples, which say `file`
+    place = next(place for place in ("specs", "proofs") if (folder / "crates" / CRATE / place / "Examples.antt").is_file())
+    beside = folder / "crates" / CRATE / place
+    (beside / "Trial.antt").write_text(HEAD.replace("PLACE", place) + "".join(theorems))
+    with open(beside / "Lib.antt", "a") as lib:
         lib.write("pub mod Trial\n")
 
 
@@ -168,7 +168,7 @@ def faults(theorems):
     """What the checker says against the theorems."""
     with tempfile.TemporaryDirectory() as folder:
         scratch_copy(Path(folder), theorems)
-        done = subprocess.run(["rt", "dev", CRATE], cwd=folder, capture_output=True, text=True)
+        done = subprocess.run(["rt", "check"], cwd=f"{folder}/crates/{CRATE}", capture_output=True, text=True)
     said = (done.stdout + done.stderr).splitlines()
     found = [line for line in said if "error:" in line]
     if any("Trial.antt" not in line for line in found) or not (found or any("logic=proved" in line for line in said)):

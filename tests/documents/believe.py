@@ -2,14 +2,14 @@
 """Which definitions a reader must believe, and whether docs/BELIEVE.md says so.
 
 Starts from the contracts of the public functions, those in each crate's src/lib.rt, and from the
-statements of the theorems (specs/Theorems, specs/Whole), and goes along the `use` lines to every
-definition that they reach. An inner room, a crate with a public function that asks something of
-its callers (`requires`), is left out. A definition is a data type, a record, an `abbrev` or an
-`unfoldable`; of any other declaration, a law or a witness, the statement alone counts.
+statements of the theorems (the files Theorems and Whole of specs/ or proofs/), and goes along the
+`use` lines to every definition that they reach. An inner room, a crate with a public function that
+asks something of its callers (`requires`), is left out. A definition is a data type, a record, an
+`abbrev` or an `unfoldable`; of any other declaration, a law or a witness, the statement alone counts.
 
 Then reads docs/BELIEVE.md. Everything in backquotes there must exist; and every file with a
-definition that is reached must be named, as crate/specs/File, or as File alone on a line that
-has named crate/specs/.. before it.
+definition that is reached must be named, as crate/specs/File (crate/proofs/File, where it stands
+there), or as File alone on a line that has named crate/specs/.. before it.
 """
 
 import argparse
@@ -21,13 +21,15 @@ from typing import NamedTuple
 TOP = Path(__file__).resolve().parents[2]
 CRATES = TOP / "crates"
 THEOREMS = ("Theorems", "Whole")
+LEMMAS = {("readers", "proofs/Whole")}  # a file of lemmas that has such a name
 THEORY = ("lexical",)  # no bytes: its theorems are said again of them
 # words in backquotes that are no definitions: the kit's
-KIT = {"requires", "ensures", "read", "write", "axioms=2", "extern"}
+KIT = {"requires", "ensures", "axioms"}
 
-USE = re.compile(r"^(?:ghost |pub )?use Rattle·(\w+?)(?:·specs)?\.specs\.([\w.]+?)(?:\.\{(.*)\}| as (\w+));?$")
-HEAD = re.compile(r"^( *)((?:(?:unfoldable|abbrev|pub) )*)(?:(data|record) )?([^\s:(){}]+)(?: .*?)? ?: ")
-WORDS = re.compile(r"[^\s(){}⟨⟩,;⌜⌝]+")
+PLACES = ("specs", "proofs")  # where a file of definitions or theorems may stand
+USE = re.compile(r"^(?:ghost |pub )*use Rattle\.(\w+)\.(specs|proofs)\.([\w.]+?)(?:\.\{(.*)\}| as (\w+));?$")
+HEAD = re.compile(r"^( *)((?:(?:unfoldable|abbrev|opaque|pub) )*)(?:(data|record) )?([^\s:(){}]+)(?: .*?)? ?: ")
+WORDS = re.compile(r"[^\s(){}⟨⟩,;«»]+")
 
 
 class Decl(NamedTuple):
@@ -41,11 +43,12 @@ class Decl(NamedTuple):
 
 
 def words(lines):
-    """The words of some lines, each also without the marks that may stand at its ends."""
+    """The words of some lines, each also without the marks that may stand at its ends, and the parts of `a.b`."""
     for line in lines:
         for word in WORDS.findall(line):
             yield word
-            yield word.strip("_.·λ")
+            yield word.strip("◌.λ")
+            yield from word.strip("◌.λ").split(".")
 
 
 def chunks(text):
@@ -98,34 +101,35 @@ class File:
         self.named = {}
         for d in declarations(text):
             self.decls[d.name] = d
-            for name in (d.name, d.name.strip("_"), *d.members, *(m.strip("_") for m in d.members)):
+            for name in (d.name, d.name.strip("◌"), *d.members, *(m.strip("◌") for m in d.members)):
                 self.named.setdefault(name, d.name)
         self.imports = imports(text)
 
 
 def imports(text):
-    """Name to (crate, file, name there); `alias.` to (crate, file, None)."""
+    """Name to (crate, file, name there); `alias.` to (crate, file, None). A file is `specs/Code/Rows`, say."""
     found = {}
     for line in text.split("\n"):
         if m := USE.match(line.strip()):
-            crate, file, names, alias = m.groups()
+            crate, place, file, names, alias = m.groups()
+            file = f"{place}/{file.replace('.', '/')}"
             if alias:
                 found[alias + "."] = (crate, file, None)
             for name in names.split(",") if names else ():
                 name, _, here = name.strip().partition(" as ")
-                for spelled in {here or name, (here or name).strip("_")}:
+                for spelled in {here or name, (here or name).strip("◌")}:
                     found[spelled] = (crate, file, name)
     return found
 
 
 class Specs:
-    """All files of specifications, read as they are asked for."""
+    """All files of definitions and theorems, read as they are asked for."""
 
     def __init__(self):
         self.files = {}
 
     def file(self, crate, name):
-        path = CRATES / crate / "specs" / (name.replace(".", "/") + ".antt")
+        path = CRATES / crate / f"{name}.antt"
         if path not in self.files:
             self.files[path] = File(path) if path.exists() else None
         return self.files[path]
@@ -186,8 +190,8 @@ def contracts():
 def theorems(specs):
     """The public statements of the files of theorems: crate, file, declaration."""
     for crate in open_crates():
-        for name in THEOREMS:
-            for d in (file.decls.values() if (file := specs.file(crate, name)) else ()):
+        for name in (f"{place}/{name}" for place in PLACES for name in THEOREMS):
+            for d in (file.decls.values() if (crate, name) not in LEMMAS and (file := specs.file(crate, name)) else ()):
                 if d.lines[0].lstrip().startswith("pub "):
                     yield crate, name, d
 
@@ -205,7 +209,7 @@ def named(text):
     for number, line in enumerate(text.split("\n"), 1):
         crate = None
         for word in re.findall(r"`([^`]+)`", line):
-            if m := re.match(r"(\w+)/specs/", word):
+            if m := re.match(r"(\w+)/(specs|proofs)/", word):
                 crate = m[1]
             yield number, word, crate
 
@@ -213,10 +217,10 @@ def named(text):
 def known_words(specs):
     """Every name that a word in backquotes may mean."""
     known = set(KIT)
-    for path in CRATES.glob("*/specs/**/*.antt"):
-        crate, inner = path.relative_to(CRATES).parts[0], path.relative_to(CRATES).with_suffix("").parts[2:]
+    for path in (path for place in PLACES for path in CRATES.glob(f"*/{place}/**/*.antt")):
+        crate, *inner = path.relative_to(CRATES).with_suffix("").parts
         known.add(path.stem)
-        file = specs.file(crate, ".".join(inner))
+        file = specs.file(crate, "/".join(inner))
         known |= set(file.named)
         known |= {f"{path.stem}.{name}" for name in file.named}
     for path in CRATES.glob("*/src/*.rt"):
@@ -241,12 +245,12 @@ def faults(specs, text, reached):
     for number, word, crate in named(text):
         if not exists(word, known):
             yield f"docs/BELIEVE.md:{number}: there is no `{word}`"
-        if m := re.match(r"(\w+)/specs/(\w+)$", word):
+        if m := re.match(r"(\w+)/((?:specs|proofs)/\w+)$", word):
             seen.add((m[1], m[2]))
         elif crate:
-            seen.add((crate, word.split(".")[0]))
+            seen |= {(crate, f"{place}/{word.split('.')[0]}") for place in PLACES}
     for crate, file in sorted(files - seen):
-        yield f"docs/BELIEVE.md: does not name `{crate}/specs/{file}`: {', '.join(sorted(n for c, f, n in reached if (c, f) == (crate, file)))}"
+        yield f"docs/BELIEVE.md: does not name `{crate}/{file}`: {', '.join(sorted(n for c, f, n in reached if (c, f) == (crate, file)))}"
 
 
 def main():
@@ -259,7 +263,7 @@ def main():
     if options.list:
         for crate, file in sorted({r[:2] for r in reached}):
             mine = sorted(r for r in reached if r[:2] == (crate, file))
-            print(f"{crate}/specs/{file} ({sum(lines[r] for r in mine)} lines): {', '.join(r[2] for r in mine)}")
+            print(f"{crate}/{file} ({sum(lines[r] for r in mine)} lines): {', '.join(r[2] for r in mine)}")
     wrong = list(faults(specs, (TOP / "docs" / "BELIEVE.md").read_text(), reached))
     for fault in wrong:
         print(fault)

@@ -5,16 +5,17 @@ import unittest
 from documents import believe
 
 SPECS = """-- A file.
-use mathlib.Core.List.{List}
-use Rattle·lexical.specs.Tree.{Forest, way}
+use Rattle.std.specs.Prelude.{List}
+use Rattle.lexical.specs.Tree.{Forest, way}
+use Rattle.lexical.proofs.Code.Rows.{◌⊗◌}
 
 -- a data type
 pub data Turn : Type 0 where
   once twice : Turn
   often : (n : ℕ) → Turn
 
-unfoldable pub _⊕_ : Forest → Forest → Forest
-_⊕_ f g = f
+unfoldable pub ◌⊕◌ : Forest → Forest → Forest
+◌⊕◌ f g = f
 
 module _ (F : Forest) where
   pub law : (t : Turn)
@@ -31,18 +32,24 @@ class Believe(unittest.TestCase):
     def test_declarations(self):
         turn, plus, law = believe.declarations(SPECS)
         self.assertEqual((turn.name, turn.defines, turn.members), ("Turn", True, ("once", "twice", "often")))
-        self.assertEqual((plus.name, plus.defines, len(plus.lines)), ("_⊕_", True, 2))
+        self.assertEqual((plus.name, plus.defines, len(plus.lines)), ("◌⊕◌", True, 2))
         self.assertEqual((law.name, law.defines), ("law", False))
         self.assertEqual([line.strip() for line in law.statement], ["pub law : (t : Turn)", "→ t ≡ once", "module _ (F : Forest) where"])
-        self.assertEqual(believe.imports(SPECS), {"Forest": ("lexical", "Tree", "Forest"), "way": ("lexical", "Tree", "way")})
+        found = {"List": ("std", "specs/Prelude", "List"), "Forest": ("lexical", "specs/Tree", "Forest"), "way": ("lexical", "specs/Tree", "way")}
+        rows = ("lexical", "proofs/Code/Rows", "◌⊗◌")
+        self.assertEqual(believe.imports(SPECS), {**found, "◌⊗◌": rows, "⊗": rows})
+
+    def test_words(self):
+        self.assertEqual(set(believe.words(["s.offset ≤ (resolved F).log"])), {"s.offset", "s", "offset", "≤", "resolved", "F", ".log", "log"})
 
     def test_reached(self):
         reached = believe.believed(believe.Specs())
-        self.assertLessEqual({("lexical", "Meaning", "declared"), ("lexical", "Claims", "ancestors"), ("lexical", "Order", "steps")}, reached)
-        self.assertFalse([r for r in reached if r[0] == "store" or r[1].startswith(("Proof", "Laws"))])
+        wanted = {("lexical", "specs/Meaning", "declared"), ("lexical", "specs/Claims", "ancestors"), ("lexical", "specs/Order", "steps")}
+        self.assertLessEqual(wanted, reached)
+        self.assertFalse([r for r in reached if r[0] == "store" or r[1].split("/")[1] in ("Proof", "Laws", "Code")])
 
     def test_faults(self):
-        reached = {("lexical", "Meaning", "declared"), ("lexical", "Order", "steps")}
+        reached = {("lexical", "specs/Meaning", "declared"), ("lexical", "specs/Order", "steps")}
         found = list(believe.faults(believe.Specs(), "| `lexical/specs/Tree`, `Meaning` | `no-such-thing` |\n`Order`", reached))
         self.assertEqual(found, ["docs/BELIEVE.md:1: there is no `no-such-thing`", "docs/BELIEVE.md: does not name `lexical/specs/Order`: steps"])
 

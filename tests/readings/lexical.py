@@ -2,7 +2,7 @@
 
 Each part follows the file of crates/lexical/specs that it is named after, definition by definition
 and under the same names. A forest is a list of nodes here (`Node`) and the state's lists grow in place
-(`addSlot`); `Kind` has the cases of Found, `Walk3` walk three's parameters, `captures` the binding of
+(`add_slot`); `Kind` has the cases of Found, `Walk3` walk three's parameters, `captures` the binding of
 which the crate's `captured` asks. Nothing else differs. What a name means, outward and without slots,
 is in meaning.py.
 """
@@ -50,13 +50,13 @@ def params(kids):
     return sum(x.kind == 17 and x.kids != [] for x in kids)
 
 
-def paramsIn(forest):
+def params_in(forest):
     """Each function's scope number and parameter variables."""
     found = []
     for x in forest:
         if way(x.kind) is Way.fn:
             found.append((x.value, params(x.kids)))
-        found += paramsIn(x.kids)
+        found += params_in(x.kids)
     return found
 
 
@@ -135,7 +135,7 @@ class Var(NamedTuple):
     any: bool
 
 
-def newVar(t):
+def new_var(t):
     return Var(t.name, t.node, entry=False, public=t.public, any=t.any)
 
 
@@ -147,7 +147,7 @@ def merge(vs, ts):
     """A new name makes a variable, a known one becomes any, Public promotes."""
     known = {v.name: v for v in vs}
     for t in ts:
-        known[t.name] = again(t, known[t.name]) if t.name in known else newVar(t)
+        known[t.name] = again(t, known[t.name]) if t.name in known else new_var(t)
     return list(known.values())
 
 
@@ -167,12 +167,12 @@ class File(NamedTuple):
     root: list
 
 
-def entryVar(e):
+def entry_var(e):
     return Var(e.name, 65535, entry=True, public=e.public, any=False)
 
 
-def moduleVars(F):
-    return merge([entryVar(e) for e in F.entries], collect(F.names, unmarked, F.root))
+def module_vars(F):
+    return merge([entry_var(e) for e in F.entries], collect(F.names, unmarked, F.root))
 
 
 Outer = Enum("Outer", "module global_ missing")
@@ -187,8 +187,8 @@ def outer(mods, globals_, n):
     return Outer.missing, None
 
 
-def outerOf(F):
-    mods = {v.name: i for i, v in enumerate(moduleVars(F))}
+def outer_of(F):
+    mods = {v.name: i for i, v in enumerate(module_vars(F))}
     globals_ = {n: i for i, n in enumerate(F.globals)}
     return lambda n: outer(mods, globals_, n)
 
@@ -270,7 +270,7 @@ def fresh(s, st):
     return st.counts.get(s, 0)
 
 
-def addSlot(s, k, b, st):
+def add_slot(s, k, b, st):
     st.slots.append(Slot(s, k, b.var.name, b.id))
     st.counts[s] = fresh(s, st) + 1
     st.held.setdefault((s, b.id), k)
@@ -286,7 +286,7 @@ def bind(s, vs, st):
     for v in vs:
         b = new(s, v, st)
         st.made.append(b)
-        addSlot(s, b.slot, b, st)
+        add_slot(s, b.slot, b, st)
         bs.append(b)
     return bs
 
@@ -306,15 +306,15 @@ def block(s, ts, st):
 # --------------------------------------------------------------------------------- First
 
 
-def moduleBindings(F):
+def module_bindings(F):
     """An old entry keeps its slot, a new one has the number of those before it."""
     kept = [e.slot for e in F.entries]
     return [Binding(i, v, local=False, owner=0, slot=kept[i] if i < len(kept) else i)
-            for i, v in enumerate(moduleVars(F))]
+            for i, v in enumerate(module_vars(F))]
 
 
 def start(F):
-    st = St(made=moduleBindings(F))
+    st = St(made=module_bindings(F))
     naming(collect(F.names, unmarked, F.root), st.made, st)
     return st
 
@@ -348,7 +348,7 @@ def bring(scopes, b, st):
     if k is None:
         parent = bring(scopes[1:], b, st)
         k = fresh(s, st)
-        addSlot(s, k, b, st)
+        add_slot(s, k, b, st)
         st.copies.append(Copy(s, parent, k, b.id))
     return k
 
@@ -376,7 +376,7 @@ class Walk3:
     def __init__(self, N, D, out):
         self.N, self.D, self.out = N, D, out
 
-    def lookUp(self, x, c, st):
+    def look_up(self, x, c, st):
         b = next((names[x.value] for names in c.env if x.value in names), None)
         if b is None:
             found = Found(Kind.outside, self.out(x.value))
@@ -389,7 +389,7 @@ class Walk3:
         for x in forest:
             w = way(x.kind)
             if w is Way.look:
-                self.lookUp(x, c, st)
+                self.look_up(x, c, st)
             elif x.kids:
                 self.walk(x.kids, w, x.value, targets(self.N, x.kind, x.kids), below(w, c), st)
 
@@ -416,7 +416,7 @@ def resolved(F):
     """The state after the three walks."""
     st, rows = start(F), {}
     declare(F.names, F.root, rows, st)
-    Walk3(F.names, rows, outerOf(F)).each(F.root, outermost, st)
+    Walk3(F.names, rows, outer_of(F)).each(F.root, outermost, st)
     return st
 
 
@@ -431,16 +431,16 @@ def captures(e):
     return e.found.of.id if e.found.of.owner != e.scopes[0] else None
 
 
-def bindingRow(captured, b):
+def binding_row(captured, b):
     v = b.var
     return (v.name, v.source, v.entry, v.public, v.any, b.id in captured, b.local, b.slot)
 
 
-def nameRow(x):
+def name_row(x):
     return (x.node, 2 if x.of.local else 1, x.of.slot, x.of.id)
 
 
-def answerRow(bs, e):
+def answer_row(bs, e):
     """None where the answer stays empty."""
     if e.found.kind is Kind.local:
         return (e.node, 2, e.found.slot, e.found.of.id)
@@ -454,7 +454,7 @@ def answerRow(bs, e):
     return None
 
 
-def errorRow(e):
+def error_row(e):
     if e.found.kind is Kind.refused:
         return (e.node, 2)
     if e.found.kind is Kind.outside and e.found.of[0] is Outer.missing:
@@ -475,13 +475,13 @@ class Records(NamedTuple):
 
 def records(F, st):
     captured = {captures(e) for e in st.log}
-    counted = dict(paramsIn(F.root))
+    counted = dict(params_in(F.root))
     return Records(
-        bindings=[bindingRow(captured, b) for b in st.made],
+        bindings=[binding_row(captured, b) for b in st.made],
         scopes=[(counted.get(s, 0), fresh(s, st)) for s in range(len(counted) + 1)],
         slots=[(r.scope, r.name) for r in st.slots],
         copies=[(c.scope, c.parent, c.child) for c in st.copies],
-        names=[nameRow(x) for x in st.named],
-        answers=[row for e in st.log if (row := answerRow(st.made, e))],
-        errors=[row for e in st.log if (row := errorRow(e))],
+        names=[name_row(x) for x in st.named],
+        answers=[row for e in st.log if (row := answer_row(st.made, e))],
+        errors=[row for e in st.log if (row := error_row(e))],
     )

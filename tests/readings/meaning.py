@@ -9,7 +9,7 @@ gives it.
 
 from typing import NamedTuple
 
-from readings.lexical import Kind, Pick, Var, Way, collect, outerOf, pick, targets, unmarked, way
+from readings.lexical import Kind, Pick, Var, Way, collect, outer_of, pick, targets, unmarked, way
 
 
 class Around(NamedTuple):
@@ -41,25 +41,25 @@ def declares(n, ts):
     return next((t.node for t in ts if t.name == n), None)
 
 
-def scopesOf(above):
+def scopes_of(above):
     """The functions whose inside this is, innermost first, and the module."""
     return tuple(a.scope for a in above if a.way is Way.fn and reach(a)) + (0,)
 
 
-def ownerOf(a, up):
+def owner_of(a, up):
     """The scope that a block's variables belong to: a function's own, for a comprehension the function around it."""
-    return a.scope if a.way is Way.fn else scopesOf(up)[0]
+    return a.scope if a.way is Way.fn else scopes_of(up)[0]
 
 
 def declared(n, above):
     """The scope that n belongs to and the Name that declares it, seen from inside these nodes."""
     for i, a in enumerate(above):
         if reach(a) and (name := declares(n, a.targets)) is not None:
-            return ownerOf(a, above[i + 1:]), name
+            return owner_of(a, above[i + 1:]), name
     return None
 
 
-def inType(above):
+def in_type(above):
     """Directly in a Type: no Def, Lambda or Compr between."""
     binders = (a.way for a in above if a.way in (Way.type, Way.fn, Way.compr))
     return next(binders, None) is Way.type
@@ -70,7 +70,7 @@ def meaning(out, site):
     d = declared(site.name, site.above)
     if d is None:
         return Kind.outside, out(site.name)
-    return (Kind.refused if inType(site.above) else Kind.local), d
+    return (Kind.refused if in_type(site.above) else Kind.local), d
 
 
 def sites(N, forest, w, s, ts, up, wanted):
@@ -82,29 +82,29 @@ def sites(N, forest, w, s, ts, up, wanted):
         yield from sites(N, x.kids, way(x.kind), x.value, targets(N, x.kind, x.kids), here, wanted)
 
 
-def sitesOf(F):
+def sites_of(F):
     """The Idents of a file, in node order."""
     return sites(F.names, F.root, Way.plain, 0, [], (), lambda k: way(k) is Way.look)
 
 
-def namesOf(F):
+def names_of(F):
     """The Names of a file, in node order."""
     return sites(F.names, F.root, Way.plain, 0, [], (), lambda k: pick(k) is Pick.name)
 
 
-def blockAround(above):
+def block_around(above):
     """The innermost Def, Lambda or Compr around a place: the scope that owns its variables, its targets. None: the
     module."""
     for i, a in enumerate(above):
         if a.way in (Way.fn, Way.compr):
-            return ownerOf(a, above[i + 1:]), a.targets
+            return owner_of(a, above[i + 1:]), a.targets
     return None
 
 
-def blockOf(above):
+def block_of(above):
     """A Name's block: a Def's own name, its first child, belongs to the block around the Def."""
     own = above[0].way is Way.fn and above[0].first
-    return blockAround(above[1:] if own else above)
+    return block_around(above[1:] if own else above)
 
 
 def made(entry, ts, n):
@@ -140,8 +140,8 @@ def check_names(F, st):
     rows = {x.node: x.of for x in st.named}
     entries = {e.name: e for e in F.entries}
     root = collect(F.names, unmarked, F.root)
-    for site in namesOf(F):
-        b, block = rows.pop(site.node), blockOf(site.above)
+    for site in names_of(F):
+        b, block = rows.pop(site.node), block_of(site.above)
         if block is None:
             assert not b.local and b.var == made(entries.get(site.name), root, site.name), (site, b)
         else:
@@ -162,14 +162,14 @@ def check_copies(st):
 
 
 def check_idents(F, st):
-    out = outerOf(F)
+    out = outer_of(F)
     events = {e.node: e for e in st.log}
     incoming = {(c.scope, c.child): c.parent for c in reversed(st.copies)}
     needed = set()
-    for site in sitesOf(F):
+    for site in sites_of(F):
         e = events.pop(site.node)
         kind, what = meaning(out, site)
-        assert e.name == site.name and e.scopes == scopesOf(site.above), (e, site)
+        assert e.name == site.name and e.scopes == scopes_of(site.above), (e, site)
         assert e.found.kind is kind, (e, kind)
         if kind is Kind.outside:
             assert e.found.of == what, (e, what)

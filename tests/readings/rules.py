@@ -193,9 +193,9 @@ RULES = [
     Rule("copied-twice", "Copied into each scope once.",
          "    if k is None:\n", "    if k is None or s != b.owner:\n"),
     Rule("innermost-copy-first", "Copied into each scope inside that one, outermost first.",
-         "        parent = bring(scopes[1:], b, st)\n        k = fresh(s, st)\n        addSlot(s, k, b, st)\n"
+         "        parent = bring(scopes[1:], b, st)\n        k = fresh(s, st)\n        add_slot(s, k, b, st)\n"
          "        st.copies.append(Copy(s, parent, k, b.id))\n",
-         "        k, at = fresh(s, st), len(st.copies)\n        addSlot(s, k, b, st)\n"
+         "        k, at = fresh(s, st), len(st.copies)\n        add_slot(s, k, b, st)\n"
          "        parent = bring(scopes[1:], b, st)\n        st.copies.insert(at, Copy(s, parent, k, b.id))\n"),
     Rule("scope-left-out", "Copied into each scope inside that one.",
          "parent = bring(scopes[1:], b, st)",

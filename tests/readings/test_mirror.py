@@ -17,7 +17,7 @@ HERE = Path(__file__).resolve().parent
 
 
 SPECS = HERE.parents[1] / "crates/lexical/specs"
-OWN = {"Node", "addSlot", "Kind", "Walk3", "captures"}  # lexical.py says what they stand for
+OWN = {"Node", "add_slot", "Kind", "Walk3", "captures"}  # lexical.py says what they stand for
 
 
 class Text(unittest.TestCase):

@@ -6,14 +6,14 @@ and, by demand 2's definition, reaches the node." A local refused in a type has 
 """
 
 from readings import mirror, second_judge
-from readings.lexical import Outer, moduleVars, outerOf
-from readings.meaning import declared, sitesOf
+from readings.lexical import Outer, module_vars, outer_of
+from readings.meaning import declared, sites_of
 from words import lines
 
 
 def outside(F):
     """What declares a name that no function and no comprehension around it binds."""
-    out, module = outerOf(F), moduleVars(F)
+    out, module = outer_of(F), module_vars(F)
 
     def of(name):
         where, number = out(name)
@@ -26,7 +26,7 @@ def outside(F):
 def declarations(F):
     """What declares each Ident, by its node."""
     found, of = {}, outside(F)
-    for site in sitesOf(F):
+    for site in sites_of(F):
         local = declared(site.name, site.above)
         found[site.node] = b"name %d" % local[1] if local else of(site.name)
     return found

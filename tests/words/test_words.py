@@ -14,8 +14,8 @@ from files.corners import corners
 from files.examples import EXAMPLES, LISTING
 from files.generate import FILES
 from readings import meaning, mirror
-from readings.lexical import Kind, Way, outerOf
-from readings.meaning import sitesOf
+from readings.lexical import Kind, Way, outer_of
+from readings.meaning import sites_of
 from words import answer, declaration, plan, plan_bytes, readers
 
 HERE = Path(__file__).resolve().parent
@@ -105,8 +105,8 @@ class Laws(unittest.TestCase):
             of_binding, of_global = readers.readers(r.records, r.file.globals)
             self.assertEqual(sorted(chain(*of_binding, *of_global)), sorted(row[0] for row in r.records.answers))
             meant = {}
-            for site in sitesOf(r.file):
-                kind, what = meaning.meaning(outerOf(r.file), site)
+            for site in sites_of(r.file):
+                kind, what = meaning.meaning(outer_of(r.file), site)
                 if kind is Kind.local:
                     meant.setdefault(what[1], []).append(site.node)
             for row, nodes in zip(r.records.bindings, of_binding):
@@ -149,7 +149,7 @@ def unreached(n, above):
     """The first block that declares the name decides, reached or not."""
     for i, a in enumerate(above):
         if (name := meaning.declares(n, a.targets)) is not None:
-            return (meaning.ownerOf(a, above[i + 1:]), name) if meaning.reach(a) else None
+            return (meaning.owner_of(a, above[i + 1:]), name) if meaning.reach(a) else None
     return None
 
 
@@ -188,7 +188,7 @@ WRONG = {
             "readings.meaning.reach", lambda a, right=meaning.reach: right(a) or a.way is Way.fn),
         "stopping at a block that does not reach the node": mock.patch("words.declaration.declared", unreached),
         "an entry that is bound again has that Name": mock.patch(
-            "words.declaration.moduleVars", lambda F, right=declaration.moduleVars: right(F._replace(entries=[]))
+            "words.declaration.module_vars", lambda F, right=declaration.module_vars: right(F._replace(entries=[]))
             + [v for v in right(F) if v.name not in {w.name for w in right(F._replace(entries=[]))}]),
     },
     "plan": {

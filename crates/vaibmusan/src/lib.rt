@@ -1,5 +1,5 @@
-// Vaibmusan for C and for Rust: include/vaibmusan.h says the same in words. A slice is a pointer and a length; what takes more than
-// a word is written through a reference, by a function that only calls another and stores its result.
+// What C and Rust call, crate vaibmusan_c exporting each under its own name: include/vaibmusan.h says the same in words. A slice is a pointer
+// and a length; what takes more than a word is written through a reference, by a function that only calls another and stores its result.
 #![tactic(auto)]
 
 ghost use Rattle.std.specs.Prelude.{◌≡◌, length};
@@ -35,15 +35,13 @@ pub struct Home {
 // This library's version: a thousand times the first number, and the second.
 const VERSION: u64 = 2;
 
-#[unsafe(no_mangle)]
-pub extern "C" fn vaib_version() -> u64
+pub fn vaib_version() -> u64
     ensures { result ≡ 2 }
 {
     VERSION
 }
 
-#[unsafe(no_mangle)]
-pub extern "C" fn vaib_judge(file: &[u8]) -> u64
+pub fn vaib_judge(file: &[u8]) -> u64
     ensures { Judged file.now result }
 {
     judge::judge(file)
@@ -69,15 +67,13 @@ fn stretch_of(file: &[u8], name: usize) -> Stretch
     }
 }
 
-#[unsafe(no_mangle)]
-pub extern "C" fn vaib_spelling(file: &[u8], name: usize, stretch: &mut Stretch)
+pub fn vaib_spelling(file: &[u8], name: usize, stretch: &mut Stretch)
     ensures { Stands file.now name stretch.new }
 {
     *stretch = stretch_of(file, name);
 }
 
-#[unsafe(no_mangle)]
-pub extern "C" fn vaib_resolve(
+pub fn vaib_resolve(
     file: &[u8],
     nodes: &mut [u32],
     bindings: &mut [u64],
@@ -94,8 +90,7 @@ pub extern "C" fn vaib_resolve(
 }
 
 // The file resolved, and the Idents that are resolved to each binding and to each global.
-#[unsafe(no_mangle)]
-pub extern "C" fn vaib_readers(
+pub fn vaib_readers(
     file: &[u8],
     nodes: &mut [u32],
     bindings: &mut [u64],
@@ -133,16 +128,14 @@ pub extern "C" fn vaib_readers(
 }
 
 // The scopes around a node, outermost first, then zeros; the result is how many they are.
-#[unsafe(no_mangle)]
-pub extern "C" fn vaib_scopes_around(file: &[u8], node: usize, around: &mut [u32]) -> usize
+pub fn vaib_scopes_around(file: &[u8], node: usize, around: &mut [u32]) -> usize
     ensures { Holds (scopes_at file.now node) result around.old around.new }
 {
     around::scopes(file, node, around)
 }
 
 // For each scope, at its number, the scope directly around it; zeros elsewhere.
-#[unsafe(no_mangle)]
-pub extern "C" fn vaib_outer_scopes(file: &[u8], outer: &mut [u32])
+pub fn vaib_outer_scopes(file: &[u8], outer: &mut [u32])
     ensures { outer.new ≡ outer_table file.now (length outer.old) }
 {
     around::outer(file, outer);
@@ -161,16 +154,14 @@ fn home_of(copies: &[u32], around: &[u32], slot: usize) -> Home
     }
 }
 
-#[unsafe(no_mangle)]
-pub extern "C" fn vaib_follow(copies: &[u32], around: &[u32], slot: usize, home: &mut Home)
+pub fn vaib_follow(copies: &[u32], around: &[u32], slot: usize, home: &mut Home)
     ensures { home.new ≡ home_of (followed copies.now around.now slot) }
 {
     *home = home_of(copies, around, slot);
 }
 
 // As much of the listing as the window `text` shows from byte `from` on.
-#[unsafe(no_mangle)]
-pub extern "C" fn vaib_listing(file: &[u8], from: usize, text: &mut [u8]) -> usize
+pub fn vaib_listing(file: &[u8], from: usize, text: &mut [u8]) -> usize
     ensures { Listed file.now from (length text.old) text.new result }
 {
     listing::listing(file, from, text)

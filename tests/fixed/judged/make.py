@@ -5,7 +5,8 @@ Every expected number is known from the way the file was made, except under `byt
 judge must agree with all of them. The files are the same in every run.
 
 cases.bin: the number of cases, 4 bytes; then for each its expected number, 1 byte, its length,
-4 bytes, and its bytes. Numbers have their most significant byte first.
+4 bytes, and its bytes. Numbers have their most significant byte first. A copy is what the proved
+program judge_cases reads.
 """
 
 import argparse
@@ -444,7 +445,8 @@ def described(made):
 def main():
     argparse.ArgumentParser(description=__doc__, formatter_class=argparse.RawDescriptionHelpFormatter).parse_args()
     made = cases()
-    (HERE / "cases.bin").write_bytes(packed(made))
+    for path in HERE / "cases.bin", HERE.parents[2] / "crates/judge_cases/stdin":
+        path.write_bytes(packed(made))
     (HERE / "cases.txt").write_text(described(made))
     print(f"{len(made)} cases, {len(packed(made))} bytes")
 

@@ -8,7 +8,7 @@ every run; the listings are the oracle's, and the mirror must agree.
 
 files.bin: a stream, each file preceded by its length, 4 bytes, most significant first.
 full.bin: for each file the listing with --full, then the byte 255 four times. The proved program
-scope_stream is run on files.bin and must write full.bin: they stand in its crate, as stdin and stdout.
+scope_stream is run on files.bin and must write full.bin: copies stand in its crate, as stdin and stdout.
 listings.txt: for each file a line `= NUMBER LENGTH NOTES`, then LENGTH bytes, its listing. The notes
 are the rules that the file tells broken from kept (by their names in rules.py), or what it is.
 """
@@ -22,6 +22,7 @@ from itertools import islice
 from pathlib import Path
 
 HERE = Path(__file__).resolve().parent
+CRATE = HERE.parents[2] / "crates/scope_stream"
 sys.path.insert(0, str(HERE.parents[1]))
 
 from compare.programs import END, Batch  # noqa: E402
@@ -88,10 +89,11 @@ def main():
     files = noted()
     listings = Batch(options.oracle).answers(list(files))
     fulls = Batch(options.oracle + " --full").answers(list(files))
-    with open(HERE / "files.bin", "wb") as target:
-        stream.write(target, files)
-    with open(HERE / "full.bin", "wb") as target:
-        target.write(b"".join(full + END for full in fulls))
+    for path in HERE / "files.bin", CRATE / "stdin":
+        with open(path, "wb") as target:
+            stream.write(target, files)
+    for path in HERE / "full.bin", CRATE / "stdout":
+        path.write_bytes(b"".join(full + END for full in fulls))
     with open(HERE / "listings.txt", "wb") as target:
         for number, ((data, notes), listing) in enumerate(zip(files.items(), listings, strict=True)):
             if listing != mirror.answer(data):
