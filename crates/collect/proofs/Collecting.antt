@@ -4,7 +4,7 @@ use mathlib.Core.Path.{◌≡◌, refl, sym, ap, ◌∙◌}
 use mathlib.Core.List.{List, [], ◌∷◌, ◌++◌, append_assoc, append-nil}
 use Rattle.lexical.specs.Tree.{Forest, nil, node, pick, through, shut}
 use Rattle.lexical.specs.Binders.{Names, Marks, Target, target, head_target, gather, collect}
-use Rattle.lexical.specs.Code.Collect.{in_loop, in_load, as_param}
+use Rattle.lexical.proofs.Laws.Collect.{in_loop, in_load, as_param}
 use Rattle.nodefile.specs.Valid.{Valid}
 use Rattle.nodefile.specs.Parts.{Walk, valid_apart}
 

@@ -10,7 +10,7 @@ use Rattle.lexical.specs.Tree.{top}
 use Rattle.lexical.specs.Binders.{Target, collect, looping}
 use Rattle.lexical.specs.State.{Binding, St}
 use Rattle.lexical.specs.Block.{block}
-use Rattle.lexical.specs.Code.Collect.{in_loop}
+use Rattle.lexical.proofs.Laws.Collect.{in_loop}
 use Rattle.store.specs.declared.ids.State.{State}
 use Rattle.store.specs.declared.ids.Marks.{Marks}
 use Rattle.store.specs.Sections.{Mem, mem}

@@ -11,7 +11,7 @@ use Rattle.lexical.specs.Tree.{Forest, nil, node, way, is_fn, when, after, param
 use Rattle.lexical.specs.Binders.{Names, collect, unmarked, targets}
 use Rattle.lexical.specs.State.{Row, St}
 use Rattle.lexical.specs.Second.{declare_here, declare_fn}
-use Rattle.lexical.specs.Proof.Kinds.{no_fn}
+use Rattle.lexical.proofs.Theory.Kinds.{no_fn}
 use Rattle.nodefile.specs.Node.{size_of, kind_of, value_of, below}
 use Rattle.nodefile.specs.Reads.{below_length}
 use Rattle.store.specs.declared.ids.State.{State}

@@ -3,7 +3,7 @@ ghost use Rattle.std.specs.Prelude.{◌≡◌};
 ghost use Rattle.store.specs.Sections.{mem};
 ghost use Rattle.target.specs.Target.{marks_of};
 ghost use Rattle.collect.specs.Cycle.{Pre, Pre1, PreKind, Done};
-ghost use Rattle.lexical.specs.Code.Collect.{in_loop, in_load, as_param};
+ghost use Rattle.lexical.proofs.Laws.Collect.{in_loop, in_load, as_param};
 
 use nodefile::kinds;
 use store::{Block, Marks, State};

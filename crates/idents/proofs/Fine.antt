@@ -10,7 +10,7 @@ use native.Mathlib.Nat.{le-max_left, le-max_right, max-le}
 use lib.ListN.{length}
 use Rattle.lexical.specs.Places.{In, Distinct, in_left, in_right, distinct_left, distinct_right}
 use Rattle.lexical.specs.Tree.{Forest, nil, node, scopes_in, ◌⊕◌, listed}
-use Rattle.lexical.specs.Code.Nodes.{scopes_def, scopes_lambda, scopes_others}
+use Rattle.lexical.proofs.Laws.Nodes.{scopes_def, scopes_lambda, scopes_others}
 use Rattle.nodefile.specs.Height.{height}
 use Rattle.nodefile.specs.Valid.{Valid}
 use Rattle.nodefile.specs.Parts.{valid_apart}

@@ -8,8 +8,8 @@ use Rattle.lexical.specs.Binders.{Names, Target}
 use Rattle.lexical.specs.Module.{Outer}
 use Rattle.lexical.specs.State.{Binding, St, Ctx}
 use Rattle.lexical.specs.Block.{block}
-use Rattle.lexical.specs.Proof.Every.{every-block, every_walk}
-use Rattle.lexical.specs.Code.Visit.{each, walk_plain}
+use Rattle.lexical.proofs.Theory.Every.{every-block, every_walk}
+use Rattle.lexical.proofs.Laws.Visit.{each, walk_plain}
 use Rattle.store.specs.declared.ids.State.{State}
 use Rattle.store.specs.Sections.{Mem}
 use Rattle.store.specs.Rel.{World, Rel, R, Over}

@@ -11,7 +11,7 @@ use Rattle.lexical.specs.Module.{Outer}
 use Rattle.lexical.specs.State.{Binding, St, Ctx}
 use Rattle.lexical.specs.Block.{block, called}
 use Rattle.lexical.specs.Third.{look_found, typed, enter, inner}
-use Rattle.lexical.specs.Code.Visit.{visit, each, each_nil, each_node, each_append, each-one, visit_others, visit_ident, visit_type, visit_for_clause, visit_def, visit_lambda, visit_compr}
+use Rattle.lexical.proofs.Laws.Visit.{visit, each, each_nil, each_node, each_append, each-one, visit_others, visit_ident, visit_type, visit_for_clause, visit_def, visit_lambda, visit_compr}
 use Rattle.nodefile.specs.Parts.{Walk}
 use Rattle.idents.proofs.Fine.{Fine, fine_apart}
 

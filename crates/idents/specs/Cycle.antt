@@ -4,7 +4,7 @@ use Rattle.lexical.specs.Places.{In, Distinct}
 use Rattle.lexical.specs.Tree.{Forest, nil, node, scopes_in, ◌⊕◌}
 use Rattle.lexical.specs.Module.{outer}
 use Rattle.lexical.specs.State.{Binding, St}
-use Rattle.lexical.specs.Code.Visit.{each}
+use Rattle.lexical.proofs.Laws.Visit.{each}
 use Rattle.nodefile.specs.Node.{size_of, kind_of}
 use Rattle.nodefile.specs.Reads.{Reads}
 use Rattle.nodefile.specs.Height.{height}

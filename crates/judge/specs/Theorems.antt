@@ -11,7 +11,7 @@ use Rattle.lexical.specs.Tree.{Forest, nil, node}
 use Rattle.lexical.specs.Table.{allowed, kinds, param_names, Tabled}
 use Rattle.lexical.specs.Module.{Entry}
 use Rattle.lexical.specs.Claims.{Scoped}
-use Rattle.lexical.specs.Code.Scopes.{once_scoped}
+use Rattle.lexical.proofs.Laws.Scopes.{once_scoped}
 use Rattle.nodefile.specs.Node.{kind_of, value_of, below}
 use Rattle.nodefile.specs.Layout.{name_count, entry_count, nodes_of, names_of, pool_of, entries_of, nodes_length}
 use Rattle.nodefile.specs.Lists.{name_off, name_len}

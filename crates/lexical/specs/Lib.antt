@@ -16,16 +16,9 @@ pub mod Second
 pub mod Third
 pub mod Follow
 pub mod Records
--- Statements: the words of the theorems, the theorems, the proved examples.
+-- The words of the theorems, which stand in proofs/.
 pub mod Claims
 pub mod Blocks
 pub mod Filled
 pub mod Schemes
 pub mod Labels
-pub mod Theorems
-pub mod Whole
-pub mod Examples
-pub mod Further
--- Laws for code, and the proofs.
-pub mod Code
-pub mod Proof

@@ -6,7 +6,7 @@ use Rattle.bits.specs.Pack.{pack, bytes_of}
 use Rattle.lexical.specs.Lists.{first}
 use Rattle.lexical.specs.Tree.{way, is_fn}
 use Rattle.lexical.specs.Records.{Records}
-use Rattle.lexical.specs.Examples.{listing_records}
+use Rattle.lexical.proofs.Examples.{listing_records}
 use Rattle.answer.specs.declared.Answer.{Answer}
 use Rattle.answer.specs.Buffers.{Buffers, buffers}
 use Rattle.answer.specs.Records.{binding_of, entry_of, pair_of, copy_of}

@@ -10,8 +10,8 @@ use Rattle.lexical.specs.State.{Binding, St, Ctx, Event, Found}
 use Rattle.lexical.specs.Block.{called}
 use Rattle.lexical.specs.Third.{logged, look_found}
 use Rattle.lexical.specs.Records.{captured, captures_found}
-use Rattle.lexical.specs.Proof.Every.{every-bring}
-use Rattle.lexical.specs.Proof.Same.{bring_log}
+use Rattle.lexical.proofs.Theory.Every.{every-bring}
+use Rattle.lexical.proofs.Theory.Same.{bring_log}
 use Rattle.store.specs.declared.ids.State.{State}
 use Rattle.store.specs.declared.ids.Resolved.{Resolved}
 use Rattle.store.specs.Sections.{Mem, mem}

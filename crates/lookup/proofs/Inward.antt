@@ -7,7 +7,7 @@ use mathlib.Core.Option.{none, some}
 use native.Mathlib.Omega.{arith}
 use lib.ListN.{get_or}
 use Rattle.lexical.specs.Third.{hand_in, copy_in, bring}
-use Rattle.lexical.specs.Proof.Same.{bring_made}
+use Rattle.lexical.proofs.Theory.Same.{bring_made}
 use Rattle.answer.specs.Records.{binding_slot}
 use Rattle.store.specs.declared.ids.State.{State}
 use Rattle.store.specs.declared.ids.Brought.{Brought}

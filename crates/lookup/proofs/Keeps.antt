@@ -11,7 +11,7 @@ use Rattle.lexical.specs.State.{Binding, St, Event, Found, local, refused, outsi
 use Rattle.lexical.specs.Third.{logged}
 use Rattle.lexical.specs.Records as rec
 use Rattle.lexical.specs.Records.{answer_row, outer_row, error_row, outer_error}
-use Rattle.lexical.specs.Code.Adds.{errors_snoc, captured_snoc, FoundBelow, OuterBelow, below_snoc}
+use Rattle.lexical.proofs.Laws.Adds.{errors_snoc, captured_snoc, FoundBelow, OuterBelow, below_snoc}
 use Rattle.store.specs.declared.ids.State.{State}
 use Rattle.store.specs.declared.ids.Resolution.{Resolution}
 use Rattle.store.specs.declared.ids.Resolution.TheVariants as res

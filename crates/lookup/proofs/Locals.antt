@@ -10,8 +10,8 @@ use Rattle.lexical.specs.Tree.{top}
 use Rattle.lexical.specs.State.{local}
 use Rattle.lexical.specs.Third.{bring}
 use Rattle.lexical.specs.Records.{captures_found}
-use Rattle.lexical.specs.Code.Adds.{FoundBelow}
-use Rattle.lexical.specs.Proof.Same.{bring_made}
+use Rattle.lexical.proofs.Laws.Adds.{FoundBelow}
+use Rattle.lexical.proofs.Theory.Same.{bring_made}
 use Rattle.store.specs.declared.ids.State.{State}
 use Rattle.store.specs.declared.ids.Brought.{Brought}
 use Rattle.answer.specs.declared.ids.BindingId.{BindingId}

@@ -13,7 +13,7 @@ use Rattle.lexical.specs.Module.{Outer, global, missing, outer, beyond, globally
 use Rattle.lexical.specs.State.{Binding, outside}
 use Rattle.lexical.specs.Block.{called}
 use Rattle.lexical.specs.Records.{captures_found, captures_outer}
-use Rattle.lexical.specs.Code.Adds.{FoundBelow, OuterBelow}
+use Rattle.lexical.proofs.Laws.Adds.{FoundBelow, OuterBelow}
 use Rattle.store.specs.declared.ids.State.{State}
 use Rattle.store.specs.declared.ids.Resolved.{Resolved}
 use Rattle.store.specs.declared.ids.Resolution.{Resolution}

@@ -11,7 +11,7 @@ use Rattle.lexical.specs.Lists.{Opened, absent, present, opened}
 use Rattle.lexical.specs.Places.{at-below}
 use Rattle.lexical.specs.State.{Binding}
 use Rattle.lexical.specs.Records.{in_function, captures_found, captures_outer, slot_of}
-use Rattle.lexical.specs.Code.Adds.{FoundBelow, OuterBelow}
+use Rattle.lexical.proofs.Laws.Adds.{FoundBelow, OuterBelow}
 use Rattle.answer.specs.Records.{binding_slot}
 use Rattle.store.specs.Words.{captured_word}
 use Rattle.store.specs.declared.ids.State.{State}

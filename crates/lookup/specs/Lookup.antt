@@ -9,7 +9,7 @@ use Rattle.lexical.specs.State.{Binding, St, Found, local, refused, outside}
 use Rattle.lexical.specs.Block.{called}
 use Rattle.lexical.specs.Third.{bring, logged, look_found}
 use Rattle.lexical.specs.Records.{captures_found, slot_of}
-use Rattle.lexical.specs.Code.Adds.{FoundBelow}
+use Rattle.lexical.proofs.Laws.Adds.{FoundBelow}
 use Rattle.store.specs.declared.ids.State.{State}
 use Rattle.store.specs.declared.ids.Resolved.{Resolved}
 use Rattle.store.specs.declared.ids.Resolution.{Resolution}

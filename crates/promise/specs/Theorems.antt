@@ -17,8 +17,8 @@ use Rattle.lexical.specs.Records.{records}
 use Rattle.lexical.specs.Claims.{sites_of, told, told_errors}
 use Rattle.lexical.specs.Schemes.{copies_into, pairs}
 use Rattle.lexical.specs.Labels.{Labelled, ServesTree}
-use Rattle.lexical.specs.Theorems as lexical
-use Rattle.lexical.specs.Whole as whole
+use Rattle.lexical.proofs.Theorems as lexical
+use Rattle.lexical.proofs.Whole as whole
 use Rattle.nodefile.specs.Layout.{node_count, nodes_of}
 use Rattle.nodefile.specs.Reads.{Reads}
 use Rattle.nodefile.specs.FileOf.{file_of}

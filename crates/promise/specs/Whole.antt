@@ -10,7 +10,7 @@ use Rattle.lexical.specs.Module.{File}
 use Rattle.lexical.specs.Meaning.{Around, declared, scopes_of}
 use Rattle.lexical.specs.State.{Copy}
 use Rattle.lexical.specs.Third.{resolved}
-use Rattle.lexical.specs.Whole as lexical
+use Rattle.lexical.proofs.Whole as lexical
 use Rattle.nodefile.specs.Layout.{node_count, nodes_of}
 use Rattle.nodefile.specs.Reads.{Reads}
 use Rattle.nodefile.specs.FileOf.{file_of}

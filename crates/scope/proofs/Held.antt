@@ -16,7 +16,7 @@ use Rattle.lexical.specs.First.{start}
 use Rattle.lexical.specs.Third.{resolved}
 use Rattle.lexical.specs.Records as rec
 use Rattle.lexical.specs.Claims.{Scoped}
-use Rattle.lexical.specs.Code.Numbers.{made_start}
+use Rattle.lexical.proofs.Laws.Numbers.{made_start}
 use Rattle.store.specs.Image.{RowOf, name_row_lem, ident_row, HeldAt, held, none-held}
 use Rattle.scope.specs.Nodes.{node_answer}
 use Rattle.scope.specs.Laws.Words.{answer_word_lem}

@@ -11,7 +11,7 @@ use Rattle.lexical.specs.Tree.{Forest}
 use Rattle.lexical.specs.First.{start}
 use Rattle.lexical.specs.Third.{resolved}
 use Rattle.lexical.specs.Records as rec
-use Rattle.lexical.specs.Code.Numbers.{made_start}
+use Rattle.lexical.proofs.Laws.Numbers.{made_start}
 use Rattle.nodefile.specs.Layout.{node_count, nodes_of}
 use Rattle.nodefile.specs.Reads.{reads_one}
 use Rattle.nodefile.specs.FileOf.{file_of}

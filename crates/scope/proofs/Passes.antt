@@ -16,9 +16,9 @@ use Rattle.lexical.specs.First.{start}
 use Rattle.lexical.specs.Second.{second}
 use Rattle.lexical.specs.Third.{outermost, resolved}
 use Rattle.lexical.specs.Records as rec
-use Rattle.lexical.specs.Code.Grows.{second_longer, resolved_longer}
-use Rattle.lexical.specs.Code.Visit.{resolved-each}
-use Rattle.lexical.specs.Proof.Modules.{module_length}
+use Rattle.lexical.proofs.Laws.Grows.{second_longer, resolved_longer}
+use Rattle.lexical.proofs.Laws.Visit.{resolved-each}
+use Rattle.lexical.proofs.Theory.Modules.{module_length}
 use Rattle.nodefile.specs.Layout.{nodes_of}
 use Rattle.nodefile.specs.Node.{size_of}
 use Rattle.nodefile.specs.Reads.{Reads}

@@ -18,9 +18,9 @@ use Rattle.lexical.specs.Block.{fresh_in}
 use Rattle.lexical.specs.First.{start}
 use Rattle.lexical.specs.Third.{resolved}
 use Rattle.lexical.specs.Records as rec
-use Rattle.lexical.specs.Code.Adds.{scope_rows-at, scope_rows-length}
-use Rattle.lexical.specs.Code.Params.{params-keys, scopes_length}
-use Rattle.lexical.specs.Code.Numbers.{made_start}
+use Rattle.lexical.proofs.Laws.Adds.{scope_rows-at, scope_rows-length}
+use Rattle.lexical.proofs.Laws.Params.{params-keys, scopes_length}
+use Rattle.lexical.proofs.Laws.Numbers.{made_start}
 use Rattle.nodefile.specs.Layout.{node_count}
 use Rattle.nodefile.specs.FileOf.{file_of}
 use Rattle.store.specs.declared.ids.State.{State}

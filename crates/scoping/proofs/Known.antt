@@ -19,7 +19,7 @@ use Rattle.shape.specs.Nodes.{at, has_name, BadNodes, no_such_name, Sound, sound
 use Rattle.shape.specs.Children.{BadChildren, other_children}
 use Rattle.scoping.specs.Params.{named, param_name, ParamNames, no_params_lem, param, other}
 use Rattle.scoping.specs.Inside.Naming.{AllKnown}
-use Rattle.lexical.specs.Proof.Slots.{both_true}
+use Rattle.lexical.proofs.Theory.Slots.{both_true}
 
 -- a Param's first child is a Name
 param_first : (k : ℕ) (ks : List ℕ) → allowed 17 (k ∷ ks) ≡ true → k ≡ 8

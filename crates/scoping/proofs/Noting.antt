@@ -14,7 +14,7 @@ use Rattle.base.specs.Parts.{part-from}
 use Rattle.base.specs.UpTo.{up_to, up_to_snoc, up_to_front}
 use Rattle.lexical.specs.Places.{In, Distinct, in_snoc, in_left, in_right, distinct_left}
 use Rattle.lexical.specs.Claims.{Once}
-use Rattle.lexical.specs.Code.Scopes.{once_filled}
+use Rattle.lexical.proofs.Laws.Scopes.{once_filled}
 use Rattle.nodefile.specs.Node.{kind_of, value_of}
 use Rattle.shape.specs.Nodes.{at, has_scope}
 use Rattle.nodefile.specs.Chosen.{chosen, chosen_append}

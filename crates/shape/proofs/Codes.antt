@@ -8,7 +8,7 @@ use borrow.Author.Tests.{leb-true, le-leb}
 use lib.Dec.{leb, T}
 use lib.ListN.{replicate, length-replicate}
 use Rattle.base.specs.Table.{at}
-use Rattle.lexical.specs.Proof.Slots.{both_true}
+use Rattle.lexical.proofs.Theory.Slots.{both_true}
 use Rattle.lexical.specs.Table.{Item, one, opt, many, row, within}
 use Rattle.shape.specs.Inside.Code.{never, rest_of, needed, packed, code_of, small, Coded, Takes}
 

@@ -12,7 +12,7 @@ use Rattle.lexical.specs.Lists.{first, map_o, or_else, or_else_none, or_else_ass
 use Rattle.lexical.specs.Places.{at-below}
 use Rattle.lexical.specs.State.{Slot}
 use Rattle.lexical.specs.Third.{holds, hand_in}
-use Rattle.lexical.specs.Proof.Slots.{hand_snoc}
+use Rattle.lexical.proofs.Theory.Slots.{hand_snoc}
 use Rattle.answer.specs.Records.{slot_scope}
 use Rattle.store.specs.Sections.{or_zero}
 use Rattle.store.specs.Words.{slot_word}

@@ -5,7 +5,7 @@ use Rattle.std.proofs.Math.ListN.{get_elem?}
 use Rattle.lexical.specs.State.{Binding, Slot, Copy, Event, Named, St}
 use Rattle.lexical.specs.Block.{fresh_in}
 use Rattle.lexical.specs.Records as rec
-use Rattle.lexical.specs.Code.Adds.{AllBelow}
+use Rattle.lexical.proofs.Laws.Adds.{AllBelow}
 use Rattle.store.specs.declared.ids.State.{State}
 use Rattle.store.specs.Sections.{Mem, Point, word_at, or_zero, slots_at, copies_at, errors_at, scopes_at, owner_at, tail_at, back_at, num_at}
 use Rattle.store.specs.Words.{row_node, row_word, bind_word, slot_word, error_word, copy_word, pair_word}

@@ -15,7 +15,7 @@ use Rattle.lexical.specs.Module.{File}
 use Rattle.lexical.specs.State.{Binding}
 use Rattle.lexical.specs.Block.{name_of}
 use Rattle.lexical.specs.Records as rec
-use Rattle.lexical.specs.Code.Adds.{below_more}
+use Rattle.lexical.proofs.Laws.Adds.{below_more}
 use Rattle.store.specs.declared.ids.State.{State}
 use Rattle.store.specs.Sections.{Mem}
 use Rattle.store.specs.Words.{answer_word}

@@ -9,7 +9,7 @@ use lib.ListN.{length, length-append, length-map}
 use Rattle.lexical.specs.Lists.{place}
 use Rattle.lexical.specs.Binders.{Target, Var, new_var}
 use Rattle.lexical.specs.State.{Binding}
-use Rattle.lexical.specs.Code.Adds.{captured-fresh}
+use Rattle.lexical.proofs.Laws.Adds.{captured-fresh}
 use Rattle.store.specs.declared.ids.State.{State}
 use Rattle.store.specs.Sections.{Mem}
 use Rattle.store.specs.Image.{Sound}

@@ -16,10 +16,10 @@ use Rattle.lexical.specs.State.{Binding, Slot, Named}
 use Rattle.lexical.specs.Block.{fresh_in, fresh, slot_for, called, name_of}
 use Rattle.lexical.specs.Records.{name_row}
 use Rattle.lexical.specs.Records.{title_row}
-use Rattle.lexical.specs.Code.Collect.{merge_append}
-use Rattle.lexical.specs.Code.Grows.{Longer}
-use Rattle.lexical.specs.Code.Notes.{merge_snoc}
-use Rattle.lexical.specs.Proof.Slots.{fresh_at}
+use Rattle.lexical.proofs.Laws.Collect.{merge_append}
+use Rattle.lexical.proofs.Laws.Grows.{Longer}
+use Rattle.lexical.proofs.Laws.Notes.{merge_snoc}
+use Rattle.lexical.proofs.Theory.Slots.{fresh_at}
 use Rattle.store.specs.Words.{answer_word, row_word}
 use Rattle.store.specs.Rel.{Over, too_many_slots, too_many_bindings, too_many_errors}
 use Rattle.store.specs.Blocks.{BlockEnv, titles, placed, placed_from, vars_of, bindings_of, slots_of, block_st}

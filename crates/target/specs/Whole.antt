@@ -11,7 +11,7 @@ use Rattle.lexical.specs.Places.{map_o_some}
 use Rattle.lexical.specs.Binders.{Target, Var, merge}
 use Rattle.lexical.specs.State.{Binding, St}
 use Rattle.lexical.specs.Block.{fresh, slot_for, new, add, bind, naming, block}
-use Rattle.lexical.specs.Proof.Slots.{fresh_at}
+use Rattle.lexical.proofs.Theory.Slots.{fresh_at}
 use Rattle.store.specs.declared.ids.State.{State}
 use Rattle.store.specs.Sections.{Mem}
 use Rattle.store.specs.Meanings.{Range}

@@ -3,8 +3,8 @@ use Rattle.std.specs.Prelude.{ℕ, List, [], ◌∷◌, length}
 use Rattle.std.proofs.Common.{arith}
 use Rattle.lexical.specs.Places.{In, Distinct}
 use Rattle.lexical.specs.Claims.{Once}
-use Rattle.lexical.specs.Proof.Pigeon.{has}
-use Rattle.lexical.specs.Code.Scopes.{once_filled}
+use Rattle.lexical.proofs.Theory.Pigeon.{has}
+use Rattle.lexical.proofs.Laws.Scopes.{once_filled}
 use Rattle.base.specs.Says.{unless}
 use Rattle.scoping.specs.Scopes.{EachOnce}
 

@@ -16,12 +16,12 @@ use Rattle.lexical.specs.State.{Binding, Found, local, refused, outside}
 use Rattle.lexical.specs.Third.{resolved}
 use Rattle.lexical.specs.Records as rec
 use Rattle.lexical.specs.Claims.{Scoped, OfLocal, Across, seen, sites_of}
-use Rattle.lexical.specs.Theorems.{captured_local, captured_module}
-use Rattle.lexical.specs.Code.Numbers.{made_at}
-use Rattle.lexical.specs.Proof.Captured.{source_unique}
-use Rattle.lexical.specs.Proof.Chains.{Led}
-use Rattle.lexical.specs.Proof.Last.{last}
-use Rattle.lexical.specs.Proof.Outcome.{event_of, meaning_of, means_local, means_refused, means_outside}
+use Rattle.lexical.proofs.Theorems.{captured_local, captured_module}
+use Rattle.lexical.proofs.Laws.Numbers.{made_at}
+use Rattle.lexical.proofs.Theory.Captured.{source_unique}
+use Rattle.lexical.proofs.Theory.Chains.{Led}
+use Rattle.lexical.proofs.Theory.Last.{last}
+use Rattle.lexical.proofs.Theory.Outcome.{event_of, meaning_of, means_local, means_refused, means_outside}
 use Rattle.nodefile.specs.Layout.{node_count}
 use Rattle.nodefile.specs.FileOf.{file_of}
 use Rattle.answer.specs.declared.Answer.{Answer}

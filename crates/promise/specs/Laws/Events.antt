@@ -19,12 +19,12 @@ use Rattle.lexical.specs.First.{start}
 use Rattle.lexical.specs.Third.{resolved}
 use Rattle.lexical.specs.Records as rec
 use Rattle.lexical.specs.Claims.{OfLocal, seen}
-use Rattle.lexical.specs.Theorems.{T1_all, T1_global, named_known}
-use Rattle.lexical.specs.Code.Numbers.{made_start, fresh_all}
-use Rattle.lexical.specs.Proof.Outcome.{site_of, meaning_of, means_outside}
-use Rattle.lexical.specs.Proof.Chains.{Led}
-use Rattle.lexical.specs.Proof.Last.{last}
-use Rattle.lexical.specs.Code.Below.{SlotFits, answer_below}
+use Rattle.lexical.proofs.Theorems.{T1_all, T1_global, named_known}
+use Rattle.lexical.proofs.Laws.Numbers.{made_start, fresh_all}
+use Rattle.lexical.proofs.Theory.Outcome.{site_of, meaning_of, means_outside}
+use Rattle.lexical.proofs.Theory.Chains.{Led}
+use Rattle.lexical.proofs.Theory.Last.{last}
+use Rattle.lexical.proofs.Laws.Below.{SlotFits, answer_below}
 use Rattle.nodefile.specs.Layout.{node_count, nodes_of}
 use Rattle.nodefile.specs.FileOf.{file_of}
 use Rattle.nodefile.specs.FileLaws.{globals_count}

@@ -14,8 +14,8 @@ use Rattle.lexical.specs.Module.{File}
 use Rattle.lexical.specs.Third.{resolved}
 use Rattle.lexical.specs.Records as rec
 use Rattle.lexical.specs.Claims.{NameRow}
-use Rattle.lexical.specs.Theorems as lexical
-use Rattle.lexical.specs.Proof.Kinds.{no_look, no_name}
+use Rattle.lexical.proofs.Theorems as lexical
+use Rattle.lexical.proofs.Theory.Kinds.{no_look, no_name}
 use Rattle.nodefile.specs.Layout.{node_count, nodes_of}
 use Rattle.nodefile.specs.Order.{spot_at}
 use Rattle.nodefile.specs.FileOf.{file_of}

@@ -18,7 +18,7 @@ use Rattle.lexical.specs.State.{Binding, Event, Slot}
 use Rattle.lexical.specs.First.{start}
 use Rattle.lexical.specs.Third.{resolved}
 use Rattle.lexical.specs.Records as rec
-use Rattle.lexical.specs.Code.Numbers.{made_start, fresh_all}
+use Rattle.lexical.proofs.Laws.Numbers.{made_start, fresh_all}
 use Rattle.nodefile.specs.Reads.{count_of}
 use Rattle.nodefile.specs.FileOf.{file_of}
 use Rattle.nodefile.specs.FileLaws.{tree_count}

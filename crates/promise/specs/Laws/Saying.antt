@@ -21,13 +21,13 @@ use Rattle.lexical.specs.Third.{resolved}
 use Rattle.lexical.specs.Follow.{from_in, follow}
 use Rattle.lexical.specs.Records as rec
 use Rattle.lexical.specs.Blocks.{named_in, Block, of_module, of_scope, block_of, class_of, entry_of, module_targets, BoundIn, NameTold, slots_before}
-use Rattle.lexical.specs.Whole as lexical
-use Rattle.lexical.specs.Code.Below.{placed}
-use Rattle.lexical.specs.Code.Numbers.{made_at, made_start, local_below}
-use Rattle.lexical.specs.Proof.Filled.{slot_of_lem}
-use Rattle.lexical.specs.Proof.Last.{last}
-use Rattle.lexical.specs.Proof.Listed.{listed-map}
-use Rattle.lexical.specs.Proof.Nodes.{no_ancestors}
+use Rattle.lexical.proofs.Whole as lexical
+use Rattle.lexical.proofs.Laws.Below.{placed}
+use Rattle.lexical.proofs.Laws.Numbers.{made_at, made_start, local_below}
+use Rattle.lexical.proofs.Theory.Filled.{slot_of_lem}
+use Rattle.lexical.proofs.Theory.Last.{last}
+use Rattle.lexical.proofs.Theory.Listed.{listed-map}
+use Rattle.lexical.proofs.Theory.Nodes.{no_ancestors}
 use Rattle.nodefile.specs.Layout.{node_count, nodes_of}
 use Rattle.nodefile.specs.FileOf.{file_of}
 use Rattle.nodefile.specs.FileLaws.{tree_below}

@@ -24,8 +24,8 @@ use Rattle.lexical.specs.Third.{resolved}
 use Rattle.lexical.specs.Records as rec
 use Rattle.lexical.specs.Schemes.{pairs}
 use Rattle.lexical.specs.Blocks.{Makes}
-use Rattle.lexical.specs.Code.Adds.{scope_rows-at, scope_rows-length}
-use Rattle.lexical.specs.Code.Params.{params-keys, params-found, scopes_length}
+use Rattle.lexical.proofs.Laws.Adds.{scope_rows-at, scope_rows-length}
+use Rattle.lexical.proofs.Laws.Params.{params-keys, params-found, scopes_length}
 use Rattle.nodefile.specs.Layout.{node_count}
 use Rattle.nodefile.specs.FileOf.{file_of}
 use Rattle.follow.specs.Place.{copies_of}

@@ -17,8 +17,8 @@ use Rattle.lexical.specs.Order.{Step, ident, opens, site_here, arranged, steps, 
 use Rattle.lexical.specs.State.{Event}
 use Rattle.lexical.specs.Third.{resolved}
 use Rattle.lexical.specs.Claims.{Scoped, view, told, ancestors}
-use Rattle.lexical.specs.Theorems.{T1_all, T1_at}
-use Rattle.lexical.specs.Proof.Outcome.{site_of, node_of, name_of}
+use Rattle.lexical.proofs.Theorems.{T1_all, T1_at}
+use Rattle.lexical.proofs.Theory.Outcome.{site_of, node_of, name_of}
 use Rattle.nodefile.specs.Reads.{Reads}
 use Rattle.nodefile.specs.Order.{Spot, spots_in, spot_at}
 use Rattle.nodefile.specs.Listed.{kind_at, value_at, in_listed, nodes_distinct}

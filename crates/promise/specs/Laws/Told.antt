@@ -16,8 +16,8 @@ use Rattle.lexical.specs.Meaning.{Site, Meaning, local, refused, outside, meanin
 use Rattle.lexical.specs.Third.{resolved}
 use Rattle.lexical.specs.Records as rec
 use Rattle.lexical.specs.Claims.{Outcome}
-use Rattle.lexical.specs.Proof.Outcome.{outcome, node_of, means_local}
-use Rattle.lexical.specs.Proof.Last.{last}
+use Rattle.lexical.proofs.Theory.Outcome.{outcome, node_of, means_local}
+use Rattle.lexical.proofs.Theory.Last.{last}
 use Rattle.nodefile.specs.Layout.{node_count}
 use Rattle.nodefile.specs.FileOf.{file_of}
 use Rattle.follow.specs.Place.{place_of}

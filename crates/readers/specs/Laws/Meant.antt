@@ -15,7 +15,7 @@ use Rattle.lexical.specs.Module.{File, module', global, missing, outer_of}
 use Rattle.lexical.specs.Meaning.{Around, Site, Meaning, local, refused, outside, meaning}
 use Rattle.lexical.specs.Third.{resolved}
 use Rattle.lexical.specs.Records as rec
-use Rattle.lexical.specs.Whole.{T1_one}
+use Rattle.lexical.proofs.Whole.{T1_one}
 use Rattle.nodefile.specs.Layout.{global_count, nodes_of, globals_of}
 use Rattle.nodefile.specs.Lists.{global_name}
 use Rattle.nodefile.specs.Reads.{Reads}

@@ -8,8 +8,8 @@ use Rattle.lexical.specs.Lists.{none-some}
 use Rattle.lexical.specs.Places.{In, Distinct, in_left, in_right, at_in}
 use Rattle.lexical.specs.Tree.{Forest, nil, node, is_fn, way, when, listed, nodes_in, scopes_in}
 use Rattle.lexical.specs.Table.{one, opt, many, row, within, head_in, drop_one, drop_many, matches, allowed, kinds}
-use Rattle.lexical.specs.Proof.Slots.{both_true}
-use Rattle.lexical.specs.Proof.Tabled.{in_range, table_name, table_ident, at_kind}
+use Rattle.lexical.proofs.Theory.Slots.{both_true}
+use Rattle.lexical.proofs.Theory.Tabled.{in_range, table_name, table_ident, at_kind}
 use Rattle.nodefile.specs.Layout.{name_count, entry_count, global_count, nodes_of, entries_of, globals_of}
 use Rattle.nodefile.specs.Lists.{entry_name, global_name}
 use Rattle.nodefile.specs.Node.{size_of}

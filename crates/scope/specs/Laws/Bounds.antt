@@ -18,8 +18,8 @@ use Rattle.lexical.specs.Module.{Entry, File}
 use Rattle.lexical.specs.State.{Binding, Slot, Copy}
 use Rattle.lexical.specs.First.{start}
 use Rattle.lexical.specs.Third.{resolved}
-use Rattle.lexical.specs.Code.Numbers.{made_start, local_capacity}
-use Rattle.lexical.specs.Code.Below as low
+use Rattle.lexical.proofs.Laws.Numbers.{made_start, local_capacity}
+use Rattle.lexical.proofs.Laws.Below as low
 use Rattle.nodefile.specs.Layout.{entry_count, entries_of}
 use Rattle.nodefile.specs.FileOf.{file_of, entry_of}
 use Rattle.nodefile.specs.FileLaws.{entries_count, entries_at}

@@ -16,8 +16,8 @@ use Rattle.lexical.specs.First.{start}
 use Rattle.lexical.specs.Third.{resolved}
 use Rattle.lexical.specs.Records as rec
 use Rattle.lexical.specs.Claims.{Scoped, ModuleBinding, Outcome, sites_of, view, told, seen}
-use Rattle.lexical.specs.Theorems.{T1, T1_outcome}
-use Rattle.lexical.specs.Code.Numbers.{made_start}
+use Rattle.lexical.proofs.Theorems.{T1, T1_outcome}
+use Rattle.lexical.proofs.Laws.Numbers.{made_start}
 
 module _ (F : File) (ok : Scoped F) where
   early : (n i : ℕ) → ModuleBinding F n i → i < length (start F).made

@@ -18,7 +18,7 @@ use Rattle.lexical.specs.Block.{slot_for, new, add, bind, name_of, naming, block
 use Rattle.lexical.specs.First.{module_bindings, start}
 use Rattle.lexical.specs.Second.{declare_fn, declare_here, declare, rows, row_names, second}
 use Rattle.lexical.specs.Third.{hand, copy_in, bring_to, bring, logged, look_found, inner, enter, typed, below, look_up, order, walk, outermost, resolved}
-use Rattle.lexical.specs.Proof.Modules.{module_vars_lem}
+use Rattle.lexical.proofs.Theory.Modules.{module_vars_lem}
 use Rattle.scope.specs.Laws.Targets.{Each, FitTarget, FitVar, collect_fit, targets_fit, merge_fit}
 
 module _ (P : ℕ → ℕ → Type 0) where

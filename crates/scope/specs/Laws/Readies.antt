@@ -7,9 +7,9 @@ use Rattle.lexical.specs.Table.{Headed}
 use Rattle.lexical.specs.Claims.{Scoped}
 use Rattle.lexical.specs.Third.{resolved}
 use Rattle.lexical.specs.Records as rec
-use Rattle.lexical.specs.Theorems.{scoped}
-use Rattle.lexical.specs.Code.Capacity.{made_capacity, names_idents_nodes, errors_nodes}
-use Rattle.lexical.specs.Proof.Tabled.{tabled_headed}
+use Rattle.lexical.proofs.Theorems.{scoped}
+use Rattle.lexical.proofs.Laws.Capacity.{made_capacity, names_idents_nodes, errors_nodes}
+use Rattle.lexical.proofs.Theory.Tabled.{tabled_headed}
 use Rattle.nodefile.specs.Layout.{node_count, nodes_of, nodes_length}
 use Rattle.nodefile.specs.FileOf.{file_of}
 use Rattle.nodefile.specs.FileLaws.{entries_count, tree_count}

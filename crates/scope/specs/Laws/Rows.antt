@@ -18,9 +18,9 @@ use Rattle.lexical.specs.State.{Binding, Named, Event, Found, local, refused, ou
 use Rattle.lexical.specs.Third.{resolved}
 use Rattle.lexical.specs.Claims.{Scoped}
 use Rattle.lexical.specs.Records as rec
-use Rattle.lexical.specs.Theorems.{T1_all}
-use Rattle.lexical.specs.Code.Capacity.{named_size}
-use Rattle.lexical.specs.Code.Rows.{node_once}
+use Rattle.lexical.proofs.Theorems.{T1_all}
+use Rattle.lexical.proofs.Laws.Capacity.{named_size}
+use Rattle.lexical.proofs.Laws.Rows.{node_once}
 use Rattle.store.specs.Words.{row_node}
 use Rattle.scope.specs.Laws.Lists.{times-at, in_times, first_once}
 use Rattle.scope.specs.Nodes.{of_node, answer_of, node_answer}

@@ -14,7 +14,7 @@ use Rattle.lexical.specs.Places.{All, all_none, all_cons, all_append, at_append}
 use Rattle.lexical.specs.Tree.{Forest, nil, node, after, Pick, through, shut, head, name, loop, load, param, pick}
 use Rattle.lexical.specs.Table.{FirstName, Headed}
 use Rattle.lexical.specs.Binders.{Names, Marks, Target, Var, target, head_target, gather, collect, unmarked, looping, targets, new_var, again, note, merge}
-use Rattle.lexical.specs.Proof.Kinds.{Simple, Sort, def6, name8, ident11, lambda12, compr13, other14, clause15, type18, simple, past, sort}
+use Rattle.lexical.proofs.Theory.Kinds.{Simple, Sort, def6, name8, ident11, lambda12, compr13, other14, clause15, type18, simple, past, sort}
 use Rattle.nodefile.specs.Order.{Spot, spots_in}
 
 -- of a name and of the node that has it

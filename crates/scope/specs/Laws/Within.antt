@@ -16,7 +16,7 @@ use Rattle.lexical.specs.Block.{in_scope, fresh_in, slot_for, add, bind, naming,
 use Rattle.lexical.specs.First.{start}
 use Rattle.lexical.specs.Second.{declare_fn, declare_here, declare, rows, second}
 use Rattle.lexical.specs.Third.{hand, copy_in, bring_to, bring, logged, look_found, inner, enter, typed, below, walk, outermost, resolved}
-use Rattle.lexical.specs.Proof.Induct.{Good, AllFn, Laws, walked}
+use Rattle.lexical.proofs.Theory.Induct.{Good, AllFn, Laws, walked}
 
 -- the scopes that are meant, the module's among them
 module _ (S : ℕ → Type 0) where

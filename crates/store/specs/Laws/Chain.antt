@@ -9,7 +9,7 @@ use Rattle.lexical.specs.Lists.{eqb-true, eqb-false, Tested, was, wasnt, tested,
 use Rattle.lexical.specs.Places.{at-below, at_end, at_left}
 use Rattle.lexical.specs.State.{Slot}
 use Rattle.lexical.specs.Third.{hand_in}
-use Rattle.lexical.specs.Proof.Slots.{hand_other}
+use Rattle.lexical.proofs.Theory.Slots.{hand_other}
 use Rattle.store.specs.Sections.{or_zero}
 use Rattle.store.specs.Image.{last_from, last_of, before}
 use Rattle.store.specs.Laws.Points.{at_others}

@@ -7,8 +7,8 @@ use Rattle.lexical.specs.State.{Binding, Event, Found, St}
 use Rattle.lexical.specs.Block.{fresh, slot_for, new, add, naming}
 use Rattle.lexical.specs.Third.{copy_in, logged}
 use Rattle.lexical.specs.Records.{errors, error_row}
-use Rattle.lexical.specs.Code.Adds.{errors_snoc}
-use Rattle.lexical.specs.Proof.Every.{Kept}
+use Rattle.lexical.proofs.Laws.Adds.{errors_snoc}
+use Rattle.lexical.proofs.Theory.Every.{Kept}
 use Rattle.store.specs.declared.ids.State.{State}
 use Rattle.store.specs.Sections.{Mem}
 use Rattle.store.specs.Rel.{World, Rel, R, Over, too_many_slots, too_many_bindings, too_many_errors}

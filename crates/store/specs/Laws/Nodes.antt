@@ -8,7 +8,7 @@ use Rattle.lexical.specs.Lists.{map_o, none-some, Opened, absent, present, opene
 use Rattle.lexical.specs.Places.{at_append, at_end}
 use Rattle.lexical.specs.State.{Binding, Event, Named}
 use Rattle.lexical.specs.Records.{name_row, answer_row, answers}
-use Rattle.lexical.specs.Code.Adds.{answers_snoc}
+use Rattle.lexical.proofs.Laws.Adds.{answers_snoc}
 use Rattle.lexical.specs.Records.{title_row}
 use Rattle.store.specs.Words.{row_node, row_word}
 use Rattle.store.specs.Image.{RowOf, name_row_lem, ident_row, HeldAt, held, none-held, NodesIn}

@@ -9,7 +9,7 @@ use Rattle.lexical.specs.Lists.{count, eqb_self, eqb-not, none-some}
 use Rattle.lexical.specs.Places.{at_end}
 use Rattle.lexical.specs.State.{Slot}
 use Rattle.lexical.specs.Block.{in_scope, fresh_in}
-use Rattle.lexical.specs.Proof.Slots.{fresh_snoc, fresh_at}
+use Rattle.lexical.proofs.Theory.Slots.{fresh_snoc, fresh_at}
 use Rattle.bits.specs.Pack.{Narrow}
 use Rattle.answer.specs.Fields.{fields}
 use Rattle.answer.specs.Records.{pair_widths, scope_slots}

@@ -3,7 +3,7 @@
 use mathlib.Core.Path.{sym, ap, ◌∙◌}
 use borrow.Author.Tests.{ne_eqb}
 use Rattle.lexical.specs.Tree.{way, is_fn}
-use Rattle.lexical.specs.Proof.Kinds.{fn_kind}
+use Rattle.lexical.proofs.Theory.Kinds.{fn_kind}
 use Rattle.nodefile.specs.Listed.{is_scope}
 use Rattle.nodefile.proofs.kinds.is_scope.Goals as goal
 
