@@ -2,6 +2,8 @@
 // The targets of a block are met one after the other; each makes a binding, or is one more of a name that the block has (crate `target`).
 // Statements, targets, clauses and parameters are gone through by functions that call one another (`walk`).
 // `declare` does so for the module, for each Def and Lambda in node order, and for a comprehension.
+#![tactic(auto)]
+
 mod declare;
 mod walk;
 
