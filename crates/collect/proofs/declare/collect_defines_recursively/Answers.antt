@@ -1,4 +1,4 @@
--- `collect::declare::collect_defines_recursively` meets its contract: the nodes from byte i on are forests that stand one after the other. Assumes nothing.
+-- `collect::declare::collect_defines_recursively` meets its contract: the nodes from byte i on are forests that stand one after the other.
 use Rattle.store.specs.Sections.{mem}
 use Rattle.collect.proofs.Walked.{w_start, w_pre, w_more, w_end}
 use Rattle.collect.proofs.declare.collect_defines_recursively.Goals as goal

@@ -1,4 +1,4 @@
--- `collect::declare::collect_defines_recursively` meets its contract: the nodes from byte i on are forests that stand one after the other. Assumes nothing.
+-- `collect::declare::collect_defines_recursively` meets its contract: the nodes from byte i on are forests that stand one after the other.
 use Prim.Native.Nat.{◌-◌}
 use lib.ListN.{length}
 use Rattle.store.specs.Sections.{mem}

@@ -1,4 +1,4 @@
--- `collect::declare::named_param` meets its contract: another kind, a Param without a Name, or one with. Assumes nothing.
+-- `collect::declare::named_param` meets its contract: another kind, a Param without a Name, or one with.
 use native.Mathlib.Omega.{arith}
 use mathlib.Core.Path.{◌∙◌}
 use Rattle.collect.proofs.Counting.{param_other, param_bare, param_named}

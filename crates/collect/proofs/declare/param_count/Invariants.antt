@@ -1,4 +1,4 @@
--- `collect::declare::param_count` meets its contract: the nodes before byte i have n parameter variables. Assumes nothing.
+-- `collect::declare::param_count` meets its contract: the nodes before byte i have n parameter variables.
 use Prim.Native.Nat.{◌-◌}
 use lib.ListN.{length}
 use Rattle.collect.proofs.Counting.{Counted}
