@@ -39,7 +39,7 @@ fn as_param(marks: Marks) -> Marks
 }
 
 // The nodes of a part, one after the other.
-#[cycle(collect_defines_collect_defines_clause_collect_defines_lvalue_collect_defines_param_collect_kids_collect_node)]
+#[cycle(targets)]
 pub fn collect_kids(
     part: &[u8],
     at: usize,
@@ -67,7 +67,7 @@ pub fn collect_kids(
 }
 
 // One node: a statement, a target, a clause or a parameter.
-#[cycle(collect_defines_collect_defines_clause_collect_defines_lvalue_collect_defines_param_collect_kids_collect_node)]
+#[cycle(targets)]
 pub fn collect_node(
     part: &[u8],
     at: usize,
@@ -101,7 +101,7 @@ pub fn collect_node(
 }
 
 // A statement.
-#[cycle(collect_defines_collect_defines_clause_collect_defines_lvalue_collect_defines_param_collect_kids_collect_node)]
+#[cycle(targets)]
 fn collect_defines(
     part: &[u8],
     at: usize,
@@ -131,7 +131,7 @@ fn collect_defines(
 }
 
 // A target.
-#[cycle(collect_defines_collect_defines_clause_collect_defines_lvalue_collect_defines_param_collect_kids_collect_node)]
+#[cycle(targets)]
 fn collect_defines_lvalue(
     part: &[u8],
     at: usize,
@@ -155,7 +155,7 @@ fn collect_defines_lvalue(
 }
 
 // A clause of a comprehension: its target.
-#[cycle(collect_defines_collect_defines_clause_collect_defines_lvalue_collect_defines_param_collect_kids_collect_node)]
+#[cycle(targets)]
 fn collect_defines_clause(
     part: &[u8],
     at: usize,
@@ -174,7 +174,7 @@ fn collect_defines_clause(
 }
 
 // A parameter: its Name.
-#[cycle(collect_defines_collect_defines_clause_collect_defines_lvalue_collect_defines_param_collect_kids_collect_node)]
+#[cycle(targets)]
 fn collect_defines_param(
     part: &[u8],
     at: usize,

@@ -1,7 +1,6 @@
 // Walk three of document 01: what each identifier means.
 // The nodes in the order of resolving: functions for statements, targets, expressions, clauses, parameters and types call one another.
-// `resolve_idents` is the original's; `idents_in_X` is its `resolve_idents_in_X`, for X = assign, expr, type_expr, def, compr:
-// shorter names, since the checker names the proof of a cycle after all of its members.
+// `resolve_idents` is the original's; `idents_in_X` is its `resolve_idents_in_X`, for X = assign, expr, type_expr, def, compr.
 // `idents_in_clause` is its `resolve_idents_in_for_clause`, and what it does at an IfClause;
 // `idents_in_param` is what its `resolve_idents_in_def` does at a parameter.
 #![tactic(auto)]
@@ -29,7 +28,7 @@ fn last(part: &[u8]) -> usize
 
 // The nodes of a part, one after the other. An Other is passed over: its children come next. Of the rest one without children is not
 // handed on: an Ident is looked up here, any other comes to nothing.
-#[cycle(each_idents_in_assign_idents_in_clause_idents_in_compr_idents_in_def_idents_in_expr_idents_in_param_idents_in_type_expr_resolve_idents_resolve_node)]
+#[cycle(resolve)]
 fn each(
     part: &[u8],
     at: usize,
@@ -69,7 +68,7 @@ fn each(
 }
 
 // One node: a statement, a target, an expression, a clause, a parameter or a type.
-#[cycle(each_idents_in_assign_idents_in_clause_idents_in_compr_idents_in_def_idents_in_expr_idents_in_param_idents_in_type_expr_resolve_idents_resolve_node)]
+#[cycle(resolve)]
 pub fn resolve_node(
     part: &[u8],
     at: usize,
@@ -102,7 +101,7 @@ pub fn resolve_node(
 }
 
 // A statement.
-#[cycle(each_idents_in_assign_idents_in_clause_idents_in_compr_idents_in_def_idents_in_expr_idents_in_param_idents_in_type_expr_resolve_idents_resolve_node)]
+#[cycle(resolve)]
 fn resolve_idents(
     part: &[u8],
     at: usize,
@@ -123,7 +122,7 @@ fn resolve_idents(
 }
 
 // A target: the expressions in it.
-#[cycle(each_idents_in_assign_idents_in_clause_idents_in_compr_idents_in_def_idents_in_expr_idents_in_param_idents_in_type_expr_resolve_idents_resolve_node)]
+#[cycle(resolve)]
 fn idents_in_assign(
     part: &[u8],
     at: usize,
@@ -141,7 +140,7 @@ fn idents_in_assign(
 }
 
 // An expression.
-#[cycle(each_idents_in_assign_idents_in_clause_idents_in_compr_idents_in_def_idents_in_expr_idents_in_param_idents_in_type_expr_resolve_idents_resolve_node)]
+#[cycle(resolve)]
 fn idents_in_expr(
     part: &[u8],
     at: usize,
@@ -170,7 +169,7 @@ fn idents_in_expr(
 }
 
 // A type: a local directly in it is refused.
-#[cycle(each_idents_in_assign_idents_in_clause_idents_in_compr_idents_in_def_idents_in_expr_idents_in_param_idents_in_type_expr_resolve_idents_resolve_node)]
+#[cycle(resolve)]
 fn idents_in_type_expr(
     part: &[u8],
     at: usize,
@@ -187,7 +186,7 @@ fn idents_in_type_expr(
 }
 
 // A clause of a comprehension: an IfClause's expression; a ForClause's expression before its target.
-#[cycle(each_idents_in_assign_idents_in_clause_idents_in_compr_idents_in_def_idents_in_expr_idents_in_param_idents_in_type_expr_resolve_idents_resolve_node)]
+#[cycle(resolve)]
 fn idents_in_clause(
     part: &[u8],
     at: usize,
@@ -212,7 +211,7 @@ fn idents_in_clause(
 }
 
 // A parameter: its type, then its default; its Name is a target with nothing in it.
-#[cycle(each_idents_in_assign_idents_in_clause_idents_in_compr_idents_in_def_idents_in_expr_idents_in_param_idents_in_type_expr_resolve_idents_resolve_node)]
+#[cycle(resolve)]
 fn idents_in_param(
     part: &[u8],
     at: usize,
@@ -230,7 +229,7 @@ fn idents_in_param(
 }
 
 // A Def or a Lambda: all but its last child outside, its last child inside.
-#[cycle(each_idents_in_assign_idents_in_clause_idents_in_compr_idents_in_def_idents_in_expr_idents_in_param_idents_in_type_expr_resolve_idents_resolve_node)]
+#[cycle(resolve)]
 fn idents_in_def(
     part: &[u8],
     at: usize,
@@ -254,7 +253,7 @@ fn idents_in_def(
 }
 
 // A comprehension: its first clause outside, the variables, then the rest inside.
-#[cycle(each_idents_in_assign_idents_in_clause_idents_in_compr_idents_in_def_idents_in_expr_idents_in_param_idents_in_type_expr_resolve_idents_resolve_node)]
+#[cycle(resolve)]
 fn idents_in_compr(
     part: &[u8],
     at: usize,
