@@ -1,4 +1,6 @@
 // A window of a text: the text is put byte by byte, and as much of it is kept as the window shows. No text is ever held whole.
+#![tactic(auto)]
+
 ghost use Rattle.text.specs.Bytes.{decimal};
 ghost use Rattle.text.specs.Window.{Begun, Puts, Finished};
 ghost use Rattle.std.specs.Prelude.{[], ◌∷◌};
