@@ -1,4 +1,6 @@
 // Following copies outward: from a slot of a scope to the scope and the slot that its value comes from.
+#![tactic(auto)]
+
 ghost use Rattle.std.specs.Prelude.{◌≡◌, ◌+◌, ◌<◌};
 ghost use Rattle.lexical.specs.Follow.{copy_to, from_in};
 ghost use Rattle.follow.specs.Place.{copy_of, copies_of, from_of, followed};
