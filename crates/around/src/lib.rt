@@ -1,4 +1,6 @@
 // The scopes around a node, and the scope directly around each scope. Any bytes are taken.
+#![tactic(auto)]
+
 mod descent;
 mod ends;
 mod place;

@@ -26,7 +26,7 @@ loop-p-preserved c =
     let ns = c.args.ns.now in
     let p = c.loop-p.p in
     going_in g (omega (arith, c.loop-p-test.true)) c.end_in-q.result (ended ns p c.loop-p.e c.node-t.ensures c.size.ensures c.end_in-q.ensures) c.if-q-x.false
-    c.is_scope_lem.result (scoped ns p c.node-t.ensures c.kind.ensures c.is_scope_lem.ensures)
+    c.is_scope-own.result (scoped ns p c.node-t.ensures c.kind.ensures c.is_scope-own.ensures)
     c.value-scope.result (c.value-scope.ensures.is ∙ ap value_of c.node-t.ensures)
     c.push-n.result c.push-n.new.out (c.push-n.ensures g.found (going_held g))
 
