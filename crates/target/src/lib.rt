@@ -1,4 +1,6 @@
 // One target of a block that is collected: a name that the block has already, or a new one.
+#![tactic(auto)]
+
 ghost use Rattle.std.specs.Prelude.{◌≡◌, true, false, cond, not, ◌&&◌, ◌||◌, ◌+◌, ◌≤◌, ◌<◌, length, get_or, eqb};
 ghost use Rattle.store.specs.Sections.{mem, Long, hidden_at, many_bindings, many_names, shown_at, t_length, w_length};
 ghost use Rattle.target.specs.Target.{Again, AgainDone, Fresh, FreshDone, PreTarget, DoneTarget};
