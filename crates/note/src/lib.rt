@@ -1,4 +1,6 @@
 // The port of names.rs's module list, and the file's other lists: what the walks start from.
+#![tactic(auto)]
+
 ghost use Rattle.std.specs.Prelude.{◌≡◌, false, [], ◌+◌, ◌≤◌, ◌<◌, length};
 ghost use Rattle.lexical.specs.Tree.{Forest};
 ghost use Rattle.lexical.specs.Records.{bit};

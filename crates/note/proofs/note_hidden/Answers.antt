@@ -22,17 +22,12 @@ hidden-past bs i h = let e : name_len (names_of bs) i ≡ 0 = field_past (names_
     short : length (names_of bs) ≤ 3 * name_count bs
     short = rw length-take (min-le_left _ _)
 
--- name k has its place
-few : (c : goal.In-loop-k) → 3072 + c.loop-k.k < length c.loop-k.t
-few c =
-    omega (arith, c.loop-k.invariant.1.long, c.requires.0, c.requires.1.names, c.name_count-n.ensures.is)
-
 pub loop-k-preserved : goal.loop-k-preserved
 loop-k-preserved c =
     let nm = c.names-nm in
     let pool = c.pool-pool in (
       omega arith,
-      filled_push c.loop-k.invariant.1 _ (omega (arith, c.loop-k.invariant.1.long, few c.before.before))
+      filled_push c.loop-k.invariant.1 _ (omega (arith, c.requires.0, c.requires.1.names, c.name_count-n.ensures.is))
           (c.flag.ensures ∙ ap bit (c.hidden.ensures ∙ ap₂ (λ (a b : List ℕ). hidden a b c.loop-k.k) nm.ensures pool.ensures)),
     )
 
