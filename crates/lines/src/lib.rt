@@ -1,4 +1,6 @@
 // The lines of document 01's listing, a function for each kind; each takes its record as it stands in its buffer.
+#![tactic(auto)]
+
 mod pieces;
 
 ghost use Rattle.std.specs.Prelude.{[], ◌∷◌};
