@@ -1,4 +1,6 @@
 // The text of document 01's listing, put into a window that the caller lends.
+#![tactic(auto)]
+
 mod lists;
 mod read;
 
