@@ -1,7 +1,7 @@
 -- `lines::put_binding` meets its contract: piece by piece.
 -- Assumes nothing.
 use Prim.Native.Nat.{ℕ}
-use mathlib.Core.Path.{refl, ap, ap₂}
+use mathlib.Core.Path.{ap, ap₂}
 use Rattle.lines.specs.Lines.{binding_line, name_text, choice, source_text}
 use Rattle.text.specs.Bytes.{ascii, decimal}
 use Rattle.text.specs.Laws.{puts_then, puts_line, puts_is}

@@ -1,6 +1,6 @@
 -- `lines::put_ident` meets its contract: by the kind and the class.
 -- Assumes nothing.
-use mathlib.Core.Path.{sym, ◌∙◌, refl}
+use mathlib.Core.Path.{sym, ◌∙◌}
 use borrow.Author.Tests.{eq-eqb, ne_eqb}
 use Rattle.text.specs.Laws.{puts_none, puts_then, puts_line}
 use Rattle.lines.specs.Lines.{ident_line}

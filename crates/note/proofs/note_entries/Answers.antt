@@ -1,16 +1,15 @@
 -- `note_entries` meets its contract: the first k entries are noted.
-use Prim.Native.Nat.{ℕ, ◌-◌, ◌≤◌, ◌<◌}
-use mathlib.Core.Path.{◌≡◌, refl, ap, ◌∙◌}
+use Prim.Native.Nat.{ℕ, ◌≤◌, ◌<◌}
+use mathlib.Core.Path.{refl, ap, ◌∙◌}
 use mathlib.Core.List.{List}
 use native.Mathlib.Omega.{arith}
 use lib.Dec.{eqb}
 use lib.ListN.{length, length-set}
 use Rattle.base.specs.UpTo.{up_to}
-use Rattle.nodefile.specs.Layout.{entry_count, entries_of}
+use Rattle.nodefile.specs.Layout.{entry_count}
 use Rattle.nodefile.specs.Lists.{entry_name, entry_public, entry_slot}
 use Rattle.nodefile.specs.FileOf.{file_of}
-use Rattle.note.specs.Noted.{ListsOk, Entered}
-use Rattle.note.proofs.Entries.{entered-none, first_vars, EntryRead, entries_more, entries_all}
+use Rattle.note.proofs.Entries.{entered-none, EntryRead, entries_more, entries_all}
 use Rattle.note.proofs.note_entries.Goals as goal
 
 pub loop-k-init : goal.loop-k-init

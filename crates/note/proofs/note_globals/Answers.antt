@@ -1,8 +1,5 @@
 -- `note_globals` meets its contract: the first k globals are noted.
--- ---- global k: its name, and its place
--- ---- the needs
-use borrow.Author.Rules.{rules}
-use Prim.Native.Nat.{ℕ, ◌+◌, ◌-◌, ◌≤◌, ◌<◌}
+use Prim.Native.Nat.{ℕ, ◌+◌, ◌<◌}
 use mathlib.Core.Path.{◌≡◌, sym, ap, ap₂, ◌∙◌, subst}
 use mathlib.Core.List.{List, [], ◌∷◌, ◌++◌}
 use native.Mathlib.Omega.{arith}
@@ -10,10 +7,10 @@ use native.Mathlib.Numerals.{add-one}
 use lib.ListN.{length, set}
 use Rattle.base.specs.UpTo.{up_to, up_to_snoc, up_to_length}
 use Rattle.lexical.specs.Lists.{place}
-use Rattle.nodefile.specs.Layout.{global_count, globals_of}
+use Rattle.nodefile.specs.Layout.{globals_of}
 use Rattle.nodefile.specs.Lists.{global_name}
 use Rattle.store.specs.Sections.{plus}
-use Rattle.note.specs.Noted.{NumbersNoted, unless_noted, globals_up_to}
+use Rattle.note.specs.Noted.{NumbersNoted, unless_noted}
 use Rattle.note.proofs.Filling.{numbers-none, numbers_more}
 use Rattle.note.proofs.note_globals.Goals as goal
 

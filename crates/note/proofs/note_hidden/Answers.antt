@@ -1,6 +1,5 @@
 -- `note_hidden` meets its contract: the names before the k-th are noted; a name past the file's has an empty spelling, and its place is 0 already.
-use borrow.Author.Rules.{rules}
-use Prim.Native.Nat.{ℕ, ◌+◌, ◌*◌, ◌-◌, ◌≤◌, ◌<◌}
+use Prim.Native.Nat.{ℕ, ◌+◌, ◌*◌, ◌≤◌}
 use mathlib.Core.Path.{◌≡◌, refl, sym, ap, ap₂, ◌∙◌}
 use mathlib.Core.List.{List}
 use native.Mathlib.Omega.{arith}
@@ -11,8 +10,7 @@ use Rattle.lexical.specs.Records.{bit}
 use Rattle.nodefile.specs.Layout.{name_count, names_of}
 use Rattle.nodefile.specs.Lists.{name_len, hidden}
 use Rattle.nodefile.specs.FileOf.{name_rules}
-use Rattle.note.specs.Filled.{Filled}
-use Rattle.note.proofs.Filling.{filled_none, filled_push, filled_wide}
+use Rattle.note.proofs.Filling.{filled_push, filled_wide}
 use Rattle.note.proofs.note_hidden.Goals as goal
 
 hidden-past : (bs : List ℕ) (i : ℕ) → name_count bs ≤ i → bit ((name_rules bs).hidden i) ≡ 0

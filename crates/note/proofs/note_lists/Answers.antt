@@ -1,12 +1,12 @@
 -- `note_lists` meets its contract: the file's lists, one after the other.
 use Prim.Native.Nat.{ℕ, ◌+◌}
-use mathlib.Core.Path.{◌≡◌, sym, ap, ◌∙◌}
+use mathlib.Core.Path.{◌≡◌, ap, ◌∙◌}
 use native.Mathlib.Omega.{arith}
 use lib.Dec.{eqb}
 use lib.ListN.{length, get_or, length-set}
 use Rattle.lexical.specs.Records.{bit}
 use Rattle.store.specs.Laws.Points.{Off}
-use Rattle.note.proofs.Lists.{made_blank, clear_flag, clear_hidden, clear_globals, all_noted}
+use Rattle.note.proofs.Lists.{made_blank, clear_globals, all_noted}
 use Rattle.note.proofs.note_lists.Goals as goal
 
 pub note_entries-requires : goal.note_entries-requires

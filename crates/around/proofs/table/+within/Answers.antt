@@ -1,10 +1,9 @@
 -- `around::table::within` meets its contract: what is left to note (`Walking`). Assumes nothing.
-use Prim.Native.Nat.{ℕ, ◌-◌, ◌<◌}
 use mathlib.Core.Path.{◌∙◌, ap}
 use native.Mathlib.Omega.{arith}
 use Rattle.nodefile.specs.Node.{value_of}
 use Rattle.around.proofs.Read.{ended, scoped}
-use Rattle.around.proofs.Walking.{Walking, Passed, walking_start, walking_end, walking_more, ends_past, passed_past, flat}
+use Rattle.around.proofs.Walking.{Passed, walking_end, walking_more, ends_past, flat}
 use Rattle.around.proofs.table.+within.Goals as goal
 
 pub returns-then-levels-eq0 : goal.returns-then-levels-eq0
