@@ -1,5 +1,4 @@
 -- `around::scopes` meets its contract: all zeros, and then the way down. Assumes nothing.
-use borrow.Author.Rules.{rules}
 use Prim.Native.Nat.{ℕ, suc, ◌≤◌, ◌<◌}
 use mathlib.Core.Path.{◌≡◌, sym, ap, ◌∙◌}
 use mathlib.Core.List.{List, [], ◌∷◌}
@@ -40,4 +39,4 @@ pub returns : goal.returns
 returns c =
     let a = c.args in
     present a.file.now c.nodes-ns.result.now a.node c.nodes-ns.ensures a.out.now c.clear.new.out c.clear.ensures
-    c.descend.new.x.1.0 c.descend.result c.if-node-ns.false c.descend.ensures
+    c.descend.new.out c.descend.result c.if-node-ns.false c.descend.ensures

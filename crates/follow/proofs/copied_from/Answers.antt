@@ -1,12 +1,9 @@
 -- `follow::copied_from` meets its contract. The loop: what the records from c on give is what all of them give. Assumes nothing.
-use Prim.Native.Nat.{ℕ, ◌-◌, ◌≤◌}
-use mathlib.Core.Path.{◌≡◌, refl, sym, ap, ◌∙◌}
+use Prim.Native.Nat.{ℕ}
+use mathlib.Core.Path.{sym, ap, ◌∙◌}
 use native.Mathlib.Omega.{arith}
-use borrow.Author.Rules.{rules}
-use lib.ListN.{length, drop}
-use Rattle.lexical.specs.Follow.{from_in}
 use Rattle.follow.specs.declared.From.TheVariants.{Parent}
-use Rattle.follow.specs.Place.{copies_of, from_of}
+use Rattle.follow.specs.Place.{from_of}
 use Rattle.follow.proofs.Copies.{from_next, from_here, from-none}
 use Rattle.follow.proofs.copied_from.Goals as goal
 

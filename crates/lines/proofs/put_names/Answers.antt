@@ -1,11 +1,7 @@
 -- `lines::put_names` meets its contract: the names of the slots below `i` that are the scope's.
 -- Assumes nothing.
-use Prim.Native.Nat.{ℕ, ◌-◌, ◌≤◌}
 use native.Mathlib.Omega.{arith}
-use lib.ListN.{length, get_or}
-use Rattle.text.specs.Window.{Rows}
-use Rattle.text.specs.Laws.{rows_none, rows_more, rows_end}
-use Rattle.lines.specs.Lines.{slot_name}
+use Rattle.text.specs.Laws.{rows_more, rows_end}
 use Rattle.lines.proofs.put_names.Goals as goal
 
 pub loop-i-preserved : goal.loop-i-preserved

@@ -1,7 +1,6 @@
 -- `lines::put_slot` meets its contract: a name if the slot is the scope's, else nothing.
 -- Assumes nothing.
 use mathlib.Core.Path.{refl, sym, ◌∙◌}
-use borrow.Author.Rules.{rules}
 use borrow.Author.Tests.{eq-eqb, ne_eqb}
 use Rattle.text.specs.Laws.{puts_none, puts_then, puts_line, puts_text}
 use Rattle.lines.specs.Lines.{slot_name}

@@ -1,22 +1,12 @@
 -- `note_entries` meets its contract: the first k entries are noted.
--- ---- what is known at the loop's head
--- ---- entry k
--- ---- the needs
-use borrow.Author.Rules.{rules}
-use Prim.Native.Nat.{ℕ, ◌-◌, ◌≤◌, ◌<◌}
-use mathlib.Core.Path.{◌≡◌, refl, ap, ◌∙◌}
-use mathlib.Core.List.{List}
-use native.Mathlib.Omega.{arith}
-use lib.Dec.{eqb}
-use lib.ListN.{length, length-set}
-use Rattle.base.specs.UpTo.{up_to}
-use Rattle.lexical.specs.Tree.{Forest, nil}
-use Rattle.nodefile.specs.Layout.{entry_count, entries_of}
-use Rattle.nodefile.specs.Lists.{entry_name, entry_public, entry_slot}
+use Prim.Native.Nat.{◌-◌, ◌≤◌}
+use mathlib.Core.Path.{◌≡◌}
+use lib.ListN.{length}
+use Rattle.lexical.specs.Tree.{Forest}
 use Rattle.nodefile.specs.FileOf.{file_of}
 use Rattle.store.specs.Blocks.{module_block}
-use Rattle.note.specs.Noted.{ListsOk, Entered}
-use Rattle.note.proofs.Entries.{entered-none, first_vars, EntryRead, entries_more, entries_all}
+use Rattle.note.specs.Noted.{Entered}
+use Rattle.note.proofs.Entries.{first_vars}
 use Rattle.note.proofs.note_entries.Given as goal
 
 abbrev pub invariant-loop-k : goal.invariant-loop-k

@@ -1,6 +1,5 @@
 -- `note_hidden` meets its contract: the names before the k-th are noted; a name past the file's has an empty spelling, and its place is 0 already.
-use borrow.Author.Rules.{rules}
-use Prim.Native.Nat.{ℕ, ◌+◌, ◌*◌, ◌-◌, ◌≤◌, ◌<◌}
+use Prim.Native.Nat.{ℕ, ◌+◌, ◌*◌, ◌≤◌}
 use mathlib.Core.Path.{◌≡◌, refl, sym, ap, ap₂, ◌∙◌}
 use mathlib.Core.List.{List}
 use native.Mathlib.Omega.{arith}
@@ -11,8 +10,7 @@ use Rattle.lexical.specs.Records.{bit}
 use Rattle.nodefile.specs.Layout.{name_count, names_of}
 use Rattle.nodefile.specs.Lists.{name_len, hidden}
 use Rattle.nodefile.specs.FileOf.{name_rules}
-use Rattle.note.specs.Filled.{Filled}
-use Rattle.note.proofs.Filling.{filled_none, filled_push, filled_wide}
+use Rattle.note.proofs.Filling.{filled_push, filled_wide}
 use Rattle.note.proofs.note_hidden.Goals as goal
 
 hidden-past : (bs : List ℕ) (i : ℕ) → name_count bs ≤ i → bit ((name_rules bs).hidden i) ≡ 0
@@ -22,17 +20,12 @@ hidden-past bs i h = let e : name_len (names_of bs) i ≡ 0 = field_past (names_
     short : length (names_of bs) ≤ 3 * name_count bs
     short = rw length-take (min-le_left _ _)
 
--- name k has its place
-few : (c : goal.In-loop-k) → 3072 + c.loop-k.k < length c.loop-k.t
-few c =
-    omega (arith, c.loop-k.invariant.1.long, c.requires.0, c.requires.1.names, c.name_count-n.ensures.is)
-
 pub loop-k-preserved : goal.loop-k-preserved
 loop-k-preserved c =
     let nm = c.names-nm in
     let pool = c.pool-pool in (
       omega arith,
-      filled_push c.loop-k.invariant.1 _ (omega (arith, c.loop-k.invariant.1.long, few c.before.before))
+      filled_push c.loop-k.invariant.1 _ (omega (arith, c.requires.0, c.requires.1.names, c.name_count-n.ensures.is))
           (c.flag.ensures ∙ ap bit (c.hidden.ensures ∙ ap₂ (λ (a b : List ℕ). hidden a b c.loop-k.k) nm.ensures pool.ensures)),
     )
 

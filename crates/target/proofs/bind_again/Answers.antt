@@ -3,7 +3,6 @@ use mathlib.Core.Path.{refl, ap}
 use native.Mathlib.Omega.{arith}
 use lib.ListN.{length, length-set}
 use Rattle.target.proofs.Renewed.{again_few, again-done}
-use borrow.Author.Rules.{rules}
 use Rattle.target.proofs.bind_again.Goals as goal
 
 pub bind_again-requires : goal.bind_again-requires
@@ -19,5 +18,5 @@ pub returns : goal.returns
 returns c =
     let p = c.requires in
     let k = c.class in
-    let n = c.slot_of_lem in
+    let n = c.slot_of in
     (refl, again-done k.result n.result p.0 p.1 c.bind_again.ensures k.ensures.0 n.ensures.0 c.put_answer.ensures)

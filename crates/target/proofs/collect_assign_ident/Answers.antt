@@ -1,7 +1,6 @@
 -- `target::collect_assign_ident` meets its contract (Ways).
 use native.Mathlib.Omega.{arith}
 use Rattle.target.proofs.Ways.{met-again, met-local, met-module, target-full, target-again, target_local, target_module}
-use borrow.Author.Rules.{rules}
 use Rattle.target.proofs.collect_assign_ident.Goals as goal
 
 pub returns-then-st : goal.returns-then-st

@@ -3,8 +3,7 @@ use mathlib.Core.Path.{ap}
 use native.Mathlib.Omega.{arith}
 use lib.ListN.{length, length-set}
 use Rattle.target.proofs.New.{fresh_many, fresh_slots}
-use Rattle.target.proofs.Local.{scope_few, slot_few, local_done}
-use borrow.Author.Rules.{rules}
+use Rattle.target.proofs.Local.{slot_few, local_done}
 use Rattle.target.proofs.new_local.Goals as goal
 
 pub returns-then-id-ge-BINDINGS : goal.returns-then-id-ge-BINDINGS

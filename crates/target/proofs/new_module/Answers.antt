@@ -2,7 +2,6 @@
 use native.Mathlib.Omega.{arith}
 use Rattle.target.proofs.New.{fresh_many}
 use Rattle.target.proofs.Module.{module_done}
-use borrow.Author.Rules.{rules}
 use Rattle.target.proofs.new_module.Goals as goal
 
 pub returns-then-id-ge-BINDINGS : goal.returns-then-id-ge-BINDINGS

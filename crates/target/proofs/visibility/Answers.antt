@@ -1,5 +1,4 @@
 -- `target::visibility` meets its contract: by cases on its three tests.
-use borrow.Author.Rules.{rules}
 use mathlib.Core.Path.{refl, sym, ◌∙◌}
 use Rattle.target.proofs.visibility.Goals as goal
 

@@ -1,9 +1,7 @@
 -- `text::finish` meets its contract: the bytes from the text's end to `i` are zero.
 -- Assumes nothing.
-use Prim.Native.Nat.{◌-◌, ◌≤◌}
 use native.Mathlib.Omega.{arith}
-use lib.ListN.{length}
-use Rattle.text.proofs.Cleared.{Cleared, cleared_none, cleared_more, finished}
+use Rattle.text.proofs.Cleared.{cleared_none, cleared_more, finished}
 use Rattle.text.proofs.finish.Goals as goal
 
 pub loop-i-init : goal.loop-i-init

@@ -1,9 +1,8 @@
 -- `text::finish` meets its contract: the bytes from the text's end to `i` are zero.
 -- Assumes nothing.
 use Prim.Native.Nat.{◌-◌, ◌≤◌}
-use native.Mathlib.Omega.{arith}
 use lib.ListN.{length}
-use Rattle.text.proofs.Cleared.{Cleared, cleared_none, cleared_more, finished}
+use Rattle.text.proofs.Cleared.{Cleared}
 use Rattle.text.proofs.finish.Given as goal
 
 abbrev pub invariant-loop-i : goal.invariant-loop-i

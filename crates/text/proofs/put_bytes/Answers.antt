@@ -1,12 +1,7 @@
 -- `text::put_bytes` meets its contract: all bytes come before the window, or behind it, or a byte for each number below `i` is put.
 -- Assumes nothing.
-use Prim.Native.Nat.{ℕ, ◌-◌, ◌≤◌}
-use mathlib.Core.List.{[], ◌∷◌}
 use native.Mathlib.Omega.{arith}
-use lib.ListN.{length, get_or}
-use Rattle.text.specs.Window.{Rows}
-use Rattle.text.specs.Laws.{rows_none, rows_more, rows_bytes}
-use Rattle.text.proofs.Byte.{passed, ended, kept}
+use Rattle.text.specs.Laws.{rows_more, rows_bytes}
 use Rattle.text.proofs.put_bytes.Goals as goal
 
 pub loop-i-preserved : goal.loop-i-preserved

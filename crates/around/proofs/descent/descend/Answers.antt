@@ -1,11 +1,10 @@
 -- `around::descent::descend` meets its contract: what is left to enter (`Going`).
 -- Assumes nothing.
-use Prim.Native.Nat.{suc, ◌-◌}
 use mathlib.Core.Path.{ap, ◌∙◌}
 use native.Mathlib.Omega.{arith}
 use Rattle.nodefile.specs.Node.{value_of}
 use Rattle.around.proofs.Read.{ended, scoped}
-use Rattle.around.proofs.Going.{Going, going_start, going_long, going_held, going_past, going_next, going_in, going_end}
+use Rattle.around.proofs.Going.{going_start, going_held, going_past, going_next, going_in, going_end}
 use Rattle.around.proofs.descent.descend.Goals as goal
 
 pub loop-p-init : goal.loop-p-init
@@ -26,7 +25,7 @@ loop-p-preserved c =
     let ns = c.args.ns.now in
     let p = c.loop-p.p in
     going_in g (omega (arith, c.loop-p-test.true)) c.end_in-q.result (ended ns p c.loop-p.e c.node-t.ensures c.size.ensures c.end_in-q.ensures) c.if-q-x.false
-    c.is_scope_lem.result (scoped ns p c.node-t.ensures c.kind.ensures c.is_scope_lem.ensures)
+    c.is_scope-own.result (scoped ns p c.node-t.ensures c.kind.ensures c.is_scope-own.ensures)
     c.value-scope.result (c.value-scope.ensures.is ∙ ap value_of c.node-t.ensures)
     c.push-n.result c.push-n.new.out (c.push-n.ensures g.found (going_held g))
 

@@ -1,11 +1,7 @@
 -- `around::descent::descend` meets its contract: what is left to enter (`Going`).
 -- Assumes nothing.
 use Prim.Native.Nat.{suc, ◌-◌}
-use mathlib.Core.Path.{ap, ◌∙◌}
-use native.Mathlib.Omega.{arith}
-use Rattle.nodefile.specs.Node.{value_of}
-use Rattle.around.proofs.Read.{ended, scoped}
-use Rattle.around.proofs.Going.{Going, going_start, going_long, going_held, going_past, going_next, going_in, going_end}
+use Rattle.around.proofs.Going.{Going}
 use Rattle.around.proofs.descent.descend.Given as goal
 
 abbrev pub invariant-loop-p : goal.invariant-loop-p

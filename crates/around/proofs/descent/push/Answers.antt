@@ -1,5 +1,4 @@
 -- `around::descent::push` meets its contract. Assumes nothing.
-use borrow.Author.Rules.{rules}
 use Rattle.lexical.specs.Tree.{when}
 use Rattle.around.proofs.Fitted.{holds_more, holds_same}
 use Rattle.around.proofs.descent.push.Goals as goal

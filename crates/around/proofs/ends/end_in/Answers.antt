@@ -1,6 +1,5 @@
 -- `around::ends::end_in` meets its contract: with no size, past the parent's end, and within it.
 -- Assumes nothing.
-use borrow.Author.Rules.{rules}
 use mathlib.Core.Path.{sym}
 use native.Mathlib.Omega.{arith}
 use Rattle.around.specs.Ends.{end_none, end_some}

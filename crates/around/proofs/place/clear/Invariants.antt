@@ -1,9 +1,8 @@
 -- `around::place::clear` meets its contract: the elements before `i` are zero.
 -- Assumes nothing.
 use Prim.Native.Nat.{◌-◌, ◌≤◌}
-use native.Mathlib.Omega.{arith}
-use lib.ListN.{length, length-set}
-use Rattle.around.proofs.Zeros.{Zeros, zeros_none, zeros_more, zeros_all}
+use lib.ListN.{length}
+use Rattle.around.proofs.Zeros.{Zeros}
 use Rattle.around.proofs.place.clear.Given as goal
 
 abbrev pub invariant-loop-i : goal.invariant-loop-i

@@ -1,5 +1,4 @@
 -- `around::place::put` meets its contract. Assumes nothing.
-use borrow.Author.Rules.{rules}
 use mathlib.Core.Path.{sym}
 use lib.Seq.{set_out}
 use Rattle.around.proofs.place.put.Goals as goal

@@ -1,5 +1,4 @@
 -- `around::table::note` meets its contract. Assumes nothing.
-use borrow.Author.Rules.{rules}
 use mathlib.Core.Path.{refl}
 use Rattle.lexical.specs.Tree.{when}
 use Rattle.around.specs.Outer.{stored}

@@ -1,6 +1,5 @@
 -- `lines::pieces::put_choice` meets its contract: by the bit.
 -- Assumes nothing.
-use borrow.Author.Rules.{rules}
 use borrow.Author.Tests.{eq-eqb, ne_eqb}
 use Rattle.lines.proofs.pieces.put_choice.Goals as goal
 

@@ -3,7 +3,6 @@
 use Prim.Native.Nat.{ℕ}
 use mathlib.Core.Path.{ap₂, ◌∙◌}
 use mathlib.Core.List.{List}
-use borrow.Author.Rules.{rules}
 use Rattle.text.specs.Laws.{puts_is}
 use Rattle.lines.specs.Lines.{name_text}
 use Rattle.nodefile.specs.Lists.{spelled}
