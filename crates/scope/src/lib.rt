@@ -1,6 +1,8 @@
 // The port of names.rs, payload.rs and scope.rs of the crate starlark 0.14.2: what every name of a script means, and in which slot it lives.
 // Any bytes are taken. First the buffers are cleared; then their lengths and the file are judged; an accepted file's lists are noted (`note`),
 // the three walks go over its nodes (`collect`, `idents`), and what they left in the working lists is copied out (`out`).
+#![tactic(auto)]
+
 mod out;
 
 ghost use Rattle.answer.specs.Buffers.{buffers, ShortOf, Zeroed};
