@@ -1,4 +1,6 @@
 // Every reader of a variable: the Idents that are resolved to each binding, and to each global, in node order.
+#![tactic(auto)]
+
 mod clear;
 mod keys;
 
