@@ -1,5 +1,5 @@
 -- `get_local` meets its contract: captured, then brought to the current scope.
-use Rattle.std.proofs.Common.{refl, ◌∙◌}
+use Rattle.std.proofs.Common.{refl}
 use Rattle.lookup.proofs.Locals.{to-bring, local_refused, local_found}
 use Rattle.lookup.proofs.name.get_local.Goals as goal
 

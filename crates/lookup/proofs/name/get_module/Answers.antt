@@ -2,7 +2,6 @@
 use mathlib.Core.Path.{refl}
 use native.Mathlib.Omega.{arith}
 use Rattle.lookup.proofs.Outward.{module_few, module_outside, module_inside}
-use borrow.Author.Rules.{rules}
 use Rattle.lookup.proofs.name.get_module.Goals as goal
 
 pub slot_of-slot-requires : goal.slot_of-slot-requires

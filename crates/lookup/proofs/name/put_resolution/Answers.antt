@@ -1,7 +1,6 @@
 -- `put_resolution` meets its contract: each outcome has its row, in Keeps.
 use native.Mathlib.Omega.{arith}
 use Rattle.lookup.proofs.Keeps.{row_as, fits_as, kept_answer, kept_error}
-use borrow.Author.Rules.{rules}
 use Rattle.lookup.proofs.name.put_resolution.Goals as goal
 
 pub put_slot-requires : goal.put_slot-requires

@@ -1,11 +1,8 @@
 -- `readers::clear::clear64` meets its contract: the elements before `i` are zero. Assumes nothing.
-use Prim.Native.Nat.{ℕ, ◌-◌, ◌≤◌}
-use mathlib.Core.Path.{◌≡◌, refl, ap, ◌∙◌}
-use mathlib.Core.List.{List, ◌++◌, append-nil}
-use native.Mathlib.Omega.{arith}
-use borrow.Author.Fill.{fill_none, fill_more}
-use lib.ListN.{length, set, replicate, drop, length-set}
-use lib.Seq.{drop-length}
+use Prim.Native.Nat.{◌-◌, ◌≤◌}
+use mathlib.Core.Path.{◌≡◌}
+use mathlib.Core.List.{◌++◌}
+use lib.ListN.{length, replicate, drop}
 use Rattle.readers.proofs.clear.clear64.Given as goal
 
 abbrev pub invariant-loop-i : goal.invariant-loop-i

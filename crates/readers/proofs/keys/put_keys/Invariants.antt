@@ -1,11 +1,8 @@
 -- `readers::keys::put_keys` meets its contract: the keys of the nodes before `i` are put. Assumes nothing.
-use Prim.Native.Nat.{ℕ, ◌-◌, ◌≤◌}
-use mathlib.Core.Path.{ap, ◌∙◌}
-use native.Mathlib.Omega.{arith}
-use lib.ListN.{length, get_or, length-set}
-use Rattle.nodefile.specs.Node.{kind_of}
-use Rattle.readers.specs.Keys.{key_of, key_at}
-use Rattle.readers.proofs.Put.{Put, put_none, put_more, put_all}
+use Prim.Native.Nat.{◌-◌, ◌≤◌}
+use lib.ListN.{length}
+use Rattle.readers.specs.Keys.{key_at}
+use Rattle.readers.proofs.Put.{Put}
 use Rattle.readers.proofs.keys.put_keys.Given as goal
 
 abbrev pub invariant-loop-i : goal.invariant-loop-i

@@ -1,10 +1,8 @@
 -- `scope::out::clear32` meets its contract: the elements before `i` are zero.
 -- Assumes nothing.
 use Prim.Native.Nat.{◌-◌, ◌≤◌}
-use mathlib.Core.Path.{refl}
-use native.Mathlib.Omega.{arith}
-use lib.ListN.{length, length-set}
-use Rattle.scope.specs.Filled.{Filled, filled_none, filled_more, filled_all}
+use lib.ListN.{length}
+use Rattle.scope.specs.Filled.{Filled}
 use Rattle.scope.proofs.out.clear32.Given as goal
 
 abbrev pub invariant-loop-i : goal.invariant-loop-i

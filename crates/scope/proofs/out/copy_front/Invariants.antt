@@ -1,10 +1,8 @@
 -- `scope::out::copy_front` meets its contract: the elements before `i` are filled.
 -- Assumes nothing.
 use Prim.Native.Nat.{ℕ, ◌+◌, ◌-◌, ◌≤◌}
-use mathlib.Core.Path.{refl}
-use native.Mathlib.Omega.{arith}
 use lib.ListN.{get_or}
-use Rattle.scope.specs.Filled.{Filled, filled_none, filled_more, filled_end}
+use Rattle.scope.specs.Filled.{Filled}
 use Rattle.scope.proofs.out.copy_front.Given as goal
 
 abbrev pub invariant-loop-i : goal.invariant-loop-i

@@ -1,9 +1,8 @@
 -- `scope::out::put_entries` meets its contract: the elements before `i` are filled.
 -- Assumes nothing.
 use Prim.Native.Nat.{ℕ, ◌-◌, ◌≤◌}
-use native.Mathlib.Omega.{arith}
 use lib.ListN.{get_or}
-use Rattle.scope.specs.Filled.{Filled, filled_none, filled_more, filled_end}
+use Rattle.scope.specs.Filled.{Filled}
 use Rattle.answer.specs.Records.{entry_from}
 use Rattle.scope.proofs.out.put_entries.Given as goal
 
