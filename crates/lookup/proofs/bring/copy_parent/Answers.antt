@@ -1,8 +1,6 @@
 -- `copy_parent` meets its contract: no room, or the stores of Copies.
 use native.Mathlib.Omega.{arith}
-use lib.ListN.{length-set}
 use Rattle.lookup.proofs.Copies.{copy_fits, copy_full, copy_done}
-use borrow.Author.Rules.{rules}
 use Rattle.lookup.proofs.bring.copy_parent.Goals as goal
 
 pub returns-then-k-ge-SLOTS : goal.returns-then-k-ge-SLOTS

@@ -1,8 +1,6 @@
 -- `enter_def` meets its contract, by the steps of Functions.
-use native.Mathlib.Omega.{arith}
 use lib.ListN.{length-set}
-use Rattle.lookup.proofs.Functions.{enter_over, enter_deep, to-open, enter-done}
-use borrow.Author.Rules.{rules}
+use Rattle.lookup.proofs.Functions.{to-open, enter-done}
 use Rattle.lookup.proofs.enter.enter_def.Goals as goal
 
 pub scope_in-requires : goal.scope_in-requires

@@ -1,7 +1,6 @@
 -- `add_error` meets its contract: a place is left, or none.
 use mathlib.Core.Path.{refl}
 use native.Mathlib.Omega.{arith}
-use borrow.Author.Rules.{rules}
 use Rattle.lookup.proofs.name.add_error.Goals as goal
 
 pub returns-then-e-ge-ERRORS : goal.returns-then-e-ge-ERRORS

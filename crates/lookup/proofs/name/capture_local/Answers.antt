@@ -1,7 +1,6 @@
 -- `capture_local` meets its contract: the owner's place and the innermost scope's say what `lexical` asks.
 use native.Mathlib.Omega.{arith}
-use Rattle.lookup.proofs.Captures.{noted, unnoted, capturing_id, capturing_level}
-use borrow.Author.Rules.{rules}
+use Rattle.lookup.proofs.Captures.{noted, unnoted, capturing_id}
 use Rattle.lookup.proofs.name.capture_local.Goals as goal
 
 pub owner-requires : goal.owner-requires

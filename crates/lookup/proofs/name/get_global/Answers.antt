@@ -2,7 +2,6 @@
 use mathlib.Core.Path.{ap, ◌∙◌}
 use Rattle.lookup.proofs.Names.{global_some, global_none}
 use Rattle.lookup.specs.Lookup.{as_global}
-use borrow.Author.Rules.{rules}
 use Rattle.lookup.proofs.name.get_global.Goals as goal
 
 pub returns-then-g-gt0 : goal.returns-then-g-gt0
