@@ -1,8 +1,10 @@
-// A stream of byte strings on standard input, each preceded by its length (4 bytes, most significant first).
-ghost use Rattle.std.specs.Prelude.{◌≡◌};
-ghost use Rattle.io.specs.Counts.{IsPrefixLen};
+// A stream of byte strings, each preceded by its length (4 bytes, most significant first), and how a reader fills a buffer.
+#![tactic(auto)]
 
-use libc::STDIN_FILENO;
+ghost use Rattle.std.specs.Prelude.{◌≡◌, ◌≤◌, length, take, IfOk};
+ghost use Rattle.std.specs.Io.{ReadsAtMost};
+
+use std::io;
 
 // Whether there was another byte string, and its length.
 #[derive(Clone, Copy)]
@@ -20,25 +22,38 @@ fn ended() -> Read
     }
 }
 
+// Reads until buf is full or the input ends; how many bytes that put at the front of buf.
+pub fn fill<R: io::Read>(input: &mut R, buf: &mut [u8]) -> io::Result<usize>
+    ensures { ReadsAtMost result buf.new }
+{
+    let mut done = 0;
+    while done < buf.len() {
+        let n = input.read(&mut buf[done..])?;
+        if n == 0 {
+            break;
+        }
+        done += n;
+    }
+    Ok(done)
+}
+
 // Reads the next one into the front of buf; none at the end of the stream, or where one is longer than buf or cut short.
-pub fn next(buf: &mut [u8]) -> Read
-    ensures { IsPrefixLen result.length buf.new }
+pub fn next<R: io::Read>(input: &mut R, buf: &mut [u8]) -> io::Result<Read>
+    ensures within { IfOk result (λ r. r.length ≤ length buf.new) }
+    ensures whole { IfOk result (λ r. r.length ≡ length (take r.length buf.new)) }
 {
     let mut head = [0u8; 4];
-    let got = io::read_full(STDIN_FILENO, &mut head);
+    let got = fill(input, &mut head)?;
     if got != 4 {
-        return ended();
+        return Ok(ended());
     }
     let length = bits::field(&head, 0, 32) as usize;
     if length > buf.len() {
-        return ended();
+        return Ok(ended());
     }
-    let n = io::read_full(STDIN_FILENO, &mut buf[0..length]);
+    let n = fill(input, &mut buf[0..length])?;
     if n != length {
-        return ended();
+        return Ok(ended());
     }
-    Read {
-        more: true,
-        length: length,
-    }
+    Ok(Read { more: true, length })
 }
