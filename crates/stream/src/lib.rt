@@ -1,7 +1,8 @@
 // A stream of byte strings, each preceded by its length (4 bytes, most significant first), and how a reader fills a buffer.
 #![tactic(auto)]
 
-ghost use Rattle.std.specs.Prelude.{◌≡◌, ◌≤◌, length, take, IfOk};
+ghost use Rattle.std.specs.Prelude.{◌≡◌, ◌<◌, ◌≤◌, length, take, IfOk};
+ghost use Rattle.std.specs.Io.KnownBytes.{Consumes, IsAtEnd};
 ghost use Rattle.std.specs.Io.{ReadsAtMost};
 
 use std::io;
@@ -24,13 +25,15 @@ fn ended() -> Read
 
 // Reads until buf is full or the input ends; how many bytes that put at the front of buf.
 pub fn fill<R: io::Read>(input: &mut R, buf: &mut [u8]) -> io::Result<usize>
-    ensures { ReadsAtMost result buf.new }
+    ensures bound { ReadsAtMost result buf.new }
+    ensures bytes { IfOk result (λ n. Consumes (R.remaining input.old) (R.remaining input.new) (take n buf.new)) }
+    ensures end { IfOk result (λ n. n < length buf.old → IsAtEnd (R.remaining input.new)) }
 {
     let mut done = 0;
     while done < buf.len() {
         let n = input.read(&mut buf[done..])?;
         if n == 0 {
-            break;
+            return Ok(done);
         }
         done += n;
     }
