@@ -1,9 +1,10 @@
 // A stream of byte strings, each preceded by its length (4 bytes, most significant first), and how a reader fills a buffer.
 #![tactic(auto)]
 
-ghost use Rattle.std.specs.Prelude.{◌≡◌, ◌<◌, ◌≤◌, length, take, IfOk};
+ghost use Rattle.std.specs.Prelude.{◌≡◌, ◌<◌, ◌≤◌, length, take, false, IfOk, IsTrue};
 ghost use Rattle.std.specs.Io.KnownBytes.{Consumes, IsAtEnd};
 ghost use Rattle.std.specs.Io.{ReadsAtMost};
+ghost use Rattle.stream.specs.Frame.{Framed};
 
 use std::io;
 
@@ -15,7 +16,8 @@ pub struct Read {
 }
 
 fn ended() -> Read
-    ensures { result.length ≡ 0 }
+    ensures over { result.more ≡ false }
+    ensures none { result.length ≡ 0 }
 {
     Read {
         more: false,
@@ -44,6 +46,7 @@ pub fn fill<R: io::Read>(input: &mut R, buf: &mut [u8]) -> io::Result<usize>
 pub fn next<R: io::Read>(input: &mut R, buf: &mut [u8]) -> io::Result<Read>
     ensures within { IfOk result (λ r. r.length ≤ length buf.new) }
     ensures whole { IfOk result (λ r. r.length ≡ length (take r.length buf.new)) }
+    ensures framed { IfOk result (λ r. IsTrue r.more → Framed (R.remaining input.old) (R.remaining input.new) r.length (take r.length buf.new)) }
 {
     let mut head = [0u8; 4];
     let got = fill(input, &mut head)?;
