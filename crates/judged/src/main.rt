@@ -1,16 +1,16 @@
 // Judges the node file on standard input and writes `answer N`.
-use libc::{STDIN_FILENO, STDOUT_FILENO};
+#![tactic(auto)]
+
+use std::io;
 
 // A file longer than any that is accepted has the answer of its first 65,536 bytes (`judged_front`, crate judge).
-fn answer() -> u64 {
-    let mut space = io::large_buffer();
-    let n = io::read_full(STDIN_FILENO, &mut space);
-    judge::judge(&space[..n])
+fn answer(input: &mut impl io::Read) -> io::Result<u64> {
+    let mut space = [0u8; 65536];
+    let n = stream::fill(input, &mut space)?;
+    Ok(judge::judge(&space[..n]))
 }
 
-fn main() {
-    let number = answer();
-    io::write_all(STDOUT_FILENO, b"answer ");
-    io::print_decimal(STDOUT_FILENO, number);
-    io::write_all(STDOUT_FILENO, b"\n");
+fn main(rt: HostRuntime) -> io::Result<()> {
+    let number = answer(&mut rt.reader())?;
+    println!(rt; "answer {number}")
 }

@@ -1,9 +1,11 @@
 // Lists the node file on standard input: document 01's listing, or `answer N` alone.
-use libc::STDIN_FILENO;
+#![tactic(auto)]
+
+use std::io;
 
 // A file longer than any that is accepted has the answer of its first 65,536 bytes (`judged_front`, crate judge).
-fn main() {
-    let mut space = io::large_buffer();
-    let n = io::read_full(STDIN_FILENO, &mut space);
-    lister::show_all(&space[..n]);
+fn main(rt: HostRuntime) -> io::Result<()> {
+    let mut space = [0u8; 65536];
+    let n = stream::fill(&mut rt.reader(), &mut space)?;
+    lister::show_all(&rt, &space[..n])
 }
