@@ -61,7 +61,7 @@ fn summary(rt: &impl Print, cases: u64, bad: u64) -> io::Result<()> {
 }
 
 fn main(rt: HostRuntime) -> io::Result<()> {
-    let mut input = rt.reader();
+    let mut input = rt.stdin();
     let cases = count(&mut input)?;
     let mut bad = 0u64;
     for case in 0..cases {

@@ -15,7 +15,7 @@ fn judged(rt: &impl Print, input: &mut impl io::Read, buf: &mut [u8]) -> io::Res
 }
 
 fn main(rt: HostRuntime) -> io::Result<()> {
-    let mut input = rt.reader();
+    let mut input = rt.stdin();
     let mut buf = [0u8; 65536];
     for _ in 0..4294967295u64 {
         if !judged(&rt, &mut input, &mut buf)? {

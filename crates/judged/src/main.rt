@@ -11,6 +11,6 @@ fn answer(input: &mut impl io::Read) -> io::Result<u64> {
 }
 
 fn main(rt: HostRuntime) -> io::Result<()> {
-    let number = answer(&mut rt.reader())?;
+    let number = answer(&mut rt.stdin())?;
     println!(rt; "answer {number}")
 }

@@ -13,9 +13,9 @@ use std::io;
 use word::{Asked, Word};
 
 // What a word makes of the file. One longer than any that is accepted has the answer of its first 65,536 bytes (`judged_front`, crate judge).
-fn run(rt: &(impl Print + Input), word: Word) -> io::Result<()> {
+fn run(rt: &impl Print, input: &mut impl io::Read, word: Word) -> io::Result<()> {
     let mut space = [0u8; 65536];
-    let n = stream::fill(&mut rt.reader(), &mut space)?;
+    let n = stream::fill(input, &mut space)?;
     let file = &space[..n];
     match word {
         Word::List => say_list::show(rt, file),
@@ -36,7 +36,7 @@ fn asked(rt: &impl Env) -> Asked {
 
 fn main(rt: HostRuntime) -> io::Result<()> {
     match asked(&rt) {
-        Asked::Run(word) => run(&rt, word),
+        Asked::Run(word) => run(&rt, &mut rt.stdin(), word),
         Asked::Help => usage::help(&rt),
         Asked::Unknown => usage::line(&rt),
     }
