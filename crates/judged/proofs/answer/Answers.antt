@@ -1,5 +1,5 @@
 -- The number of what was read is the number of all that the input held: what is longer is judged as its front is.
-use Rattle.std.proofs.Common.{◌≡◌, ℕ, ◌<◌, ◌≤◌, ◌⊎◌, List, length, take, Option, None, Some, IfSome, inl, inr, arith, subst, lit<}
+use Rattle.std.proofs.Common.{◌≡◌, ℕ, List, length, take, Option, None, Some, IfSome, inl, inr, arith, subst, lit<}
 use Rattle.std.proofs.lemmas.List.{take_all}
 use Rattle.std.proofs.lemmas.Bool.{cases_lt}
 use Rattle.judge.specs.Cond.{Judged}
