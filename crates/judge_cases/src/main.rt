@@ -2,17 +2,17 @@
 // The list: how many cases, 4 bytes; then for each its answer, 1 byte, its length, 4 bytes, and its bytes, at most 65,536.
 #![tactic(auto)]
 
-ghost use Rattle.std.specs.Prelude.{◌≤◌, ◌<◌};
+ghost use Rattle.std.specs.Prelude.{◌≤◌, ◌<◌, IfOk};
 
-use libc::{STDIN_FILENO, STDOUT_FILENO};
+use std::io;
 
 // How many cases follow.
-fn count() -> u64
-    ensures { result < 4294967296 }
+fn count(input: &mut impl io::Read) -> io::Result<u64>
+    ensures { IfOk result (λ n. n < 4294967296) }
 {
     let mut head = [0u8; 4];
-    io::read_full(STDIN_FILENO, &mut head);
-    bits::field(&head, 0, 32)
+    stream::fill(input, &mut head)?;
+    Ok(bits::field(&head, 0, 32))
 }
 
 fn least(a: usize, b: usize) -> usize
@@ -25,57 +25,47 @@ fn least(a: usize, b: usize) -> usize
 }
 
 // The answer to the next file, which is read into a part of a buffer.
-fn answer_in(part: &mut [u8]) -> u64 {
-    let got = io::read_full(STDIN_FILENO, part);
-    judge::judge(&part[..got])
+fn answer_in(input: &mut impl io::Read, part: &mut [u8]) -> io::Result<u64> {
+    let got = stream::fill(input, part)?;
+    Ok(judge::judge(&part[..got]))
 }
 
 // The answer to the next file, which has so many bytes.
-fn answer(length: usize) -> u64 {
-    let mut space = io::large_buffer();
+fn answer(input: &mut impl io::Read, length: usize) -> io::Result<u64> {
+    let mut space = [0u8; 65536];
     let n = least(length, 65536);
-    answer_in(&mut space[..n])
+    answer_in(input, &mut space[..n])
 }
 
-fn report(case: u64, expected: u64, answered: u64) {
-    io::write_all(STDOUT_FILENO, b"case ");
-    io::print_decimal(STDOUT_FILENO, case);
-    io::write_all(STDOUT_FILENO, b": expected ");
-    io::print_decimal(STDOUT_FILENO, expected);
-    io::write_all(STDOUT_FILENO, b", answered ");
-    io::print_decimal(STDOUT_FILENO, answered);
-    io::write_all(STDOUT_FILENO, b"\n");
+fn report(rt: &impl Print, case: u64, expected: u64, answered: u64) -> io::Result<()> {
+    println!(rt; "case {case}: expected {expected}, answered {answered}")
 }
 
 // The next case: 0 if it is answered as expected, else 1, with a line that says so.
-fn wrong(case: u64) -> u64
-    ensures { result ≤ 1 }
+fn wrong(rt: &impl Print, input: &mut impl io::Read, case: u64) -> io::Result<u64>
+    ensures { IfOk result (λ n. n ≤ 1) }
 {
     let mut head = [0u8; 5];
-    io::read_full(STDIN_FILENO, &mut head);
+    stream::fill(input, &mut head)?;
     let expected = bits::field(&head, 0, 8);
-    let answered = answer(bits::field(&head, 8, 32) as usize);
+    let answered = answer(input, bits::field(&head, 8, 32) as usize)?;
     if answered == expected {
-        return 0;
+        return Ok(0);
     }
-    report(case, expected, answered);
-    1
+    report(rt, case, expected, answered)?;
+    Ok(1)
 }
 
-fn summary(cases: u64, bad: u64) {
-    io::print_decimal(STDOUT_FILENO, cases);
-    io::write_all(STDOUT_FILENO, b" cases, ");
-    io::print_decimal(STDOUT_FILENO, bad);
-    io::write_all(STDOUT_FILENO, b" wrong\n");
+fn summary(rt: &impl Print, cases: u64, bad: u64) -> io::Result<()> {
+    println!(rt; "{cases} cases, {bad} wrong")
 }
 
-fn main() {
-    let cases = count();
-    let mut bad: u64 = 0;
-    let mut case: u64 = 0;
-    while case < cases {
-        bad += wrong(case);
-        case += 1;
+fn main(rt: HostRuntime) -> io::Result<()> {
+    let mut input = rt.stdin();
+    let cases = count(&mut input)?;
+    let mut bad = 0u64;
+    for case in 0..cases {
+        bad += wrong(&rt, &mut input, case)?;
     }
-    summary(cases, bad);
+    summary(&rt, cases, bad)
 }

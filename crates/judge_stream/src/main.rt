@@ -2,27 +2,25 @@
 // It ends with the stream, or at a file of more than 65,536 bytes.
 #![tactic(auto)]
 
-use libc::STDOUT_FILENO;
+use std::io;
 
 // Judges the next file; false at the end.
-fn judged(buf: &mut [u8]) -> bool {
-    let next = stream::next(buf);
-    let n = next.length;
+fn judged(rt: &impl Print, input: &mut impl io::Read, buf: &mut [u8]) -> io::Result<bool> {
+    let next = stream::next(input, buf)?;
     if next.more {
-        io::print_decimal(STDOUT_FILENO, judge::judge(&buf[..n]));
-        io::write_all(STDOUT_FILENO, b"\n");
+        let number = judge::judge(&buf[..next.length]);
+        println!(rt; "{number}")?;
     }
-    next.more
+    Ok(next.more)
 }
 
-fn main() {
-    let mut buf = io::large_buffer();
-    let mut left: u64 = 4294967295;
-    while left > 0 {
-        if judged(&mut buf) {
-            left -= 1;
-        } else {
-            return;
+fn main(rt: HostRuntime) -> io::Result<()> {
+    let mut input = rt.stdin();
+    let mut buf = [0u8; 65536];
+    for _ in 0..4294967295u64 {
+        if !judged(&rt, &mut input, &mut buf)? {
+            return Ok(());
         }
     }
+    Ok(())
 }

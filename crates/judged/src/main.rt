@@ -1,18 +1,21 @@
 // Judges the node file on standard input and writes `answer N`.
 #![tactic(auto)]
 
-use libc::{STDIN_FILENO, STDOUT_FILENO};
+ghost use Rattle.std.specs.Prelude.{IfOk, IfSome};
+ghost use Rattle.judge.specs.Cond.{Judged};
 
-// A file longer than any that is accepted has the answer of its first 65,536 bytes (`judged_front`, crate judge).
-fn answer() -> u64 {
-    let mut space = io::large_buffer();
-    let n = io::read_full(STDIN_FILENO, &mut space);
-    judge::judge(&space[..n])
+use std::io;
+
+// The answer to all that the input holds: a file longer than any that is accepted has the answer of its first 65,536 bytes (`judged_front`, crate judge).
+fn answer<R: io::Read>(input: &mut R) -> io::Result<u64>
+    ensures { IfOk result (λ n. IfSome (R.remaining input.old) (λ xs. Judged xs n)) }
+{
+    let mut space = [0u8; 65536];
+    let n = stream::fill(input, &mut space)?;
+    Ok(judge::judge(&space[..n]))
 }
 
-fn main() {
-    let number = answer();
-    io::write_all(STDOUT_FILENO, b"answer ");
-    io::print_decimal(STDOUT_FILENO, number);
-    io::write_all(STDOUT_FILENO, b"\n");
+fn main(rt: HostRuntime) -> io::Result<()> {
+    let number = answer(&mut rt.stdin())?;
+    println!(rt; "answer {number}")
 }

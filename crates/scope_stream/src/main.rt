@@ -3,75 +3,67 @@
 // It ends with the stream, or at a file of more than 65,536 bytes.
 #![tactic(auto)]
 
-use libc::STDOUT_FILENO;
+use std::io;
 
-fn say(text: &[u8]) {
-    io::write_all(STDOUT_FILENO, text);
-}
-
-fn say_number(n: u64) {
-    io::print_decimal(STDOUT_FILENO, n);
+// The letter of a Name's class.
+fn letter(record: u32) -> char {
+    if answer::node::class(record) == answer::node::MODULE {
+        'M'
+    } else {
+        'L'
+    }
 }
 
 // The record of a Name: its binding's slot.
-fn name_line(node: usize, record: u32) {
-    say(b"N ");
-    say_number(node as u64);
-    if answer::node::class(record) == answer::node::MODULE {
-        say(b" M ");
-    } else {
-        say(b" L ");
-    }
-    say_number(answer::node::slot(record));
-    say(b" ");
-    say_number(answer::node::binding(record));
-    say(b"\n");
+fn name_line(rt: &impl Print, node: usize, record: u32) -> io::Result<()> {
+    let class = letter(record);
+    let slot = answer::node::slot(record);
+    let binding = answer::node::binding(record);
+    println!(rt; "N {node} {class} {slot} {binding}")
 }
 
 // The line for node i, if it is a Name.
-fn node_line(list: &[u8], i: usize, record: u32) {
+fn node_line(rt: &impl Print, list: &[u8], i: usize, record: u32) -> io::Result<()> {
     if i >= list.len() / 8 {
-        return;
+        return Ok(());
     }
     let start = 8 * i;
     if nodefile::kind(&list[start..]) == 8 {
-        name_line(i, record);
+        name_line(rt, i, record)?;
     }
+    Ok(())
 }
 
-fn name_lines(list: &[u8], records: &[u32]) {
-    let mut i = 0;
-    while i < records.len() {
-        node_line(list, i, records[i]);
-        i += 1;
+fn name_lines(rt: &impl Print, list: &[u8], records: &[u32]) -> io::Result<()> {
+    for (i, record) in records.iter().enumerate() {
+        node_line(rt, list, i, *record)?;
     }
+    Ok(())
 }
 
-fn slot_line(file: &[u8], record: u32) {
-    say(b"T ");
-    say_number(answer::slot::scope(record));
-    say(b" ");
-    say(nodefile::spelled(
+fn slot_line(rt: &impl Print, file: &[u8], record: u32) -> io::Result<()> {
+    let scope = answer::slot::scope(record);
+    print!(rt; "T {scope} ")?;
+    rt.write_all(nodefile::spelled(
         nodefile::names(file),
         nodefile::pool(file),
         answer::slot::name(record) as usize,
-    ));
-    say(b"\n");
+    ))?;
+    rt.write_all(b"\n")
 }
 
-fn slot_lines(file: &[u8], count: usize, records: &[u32]) {
-    let mut i = 0;
-    while i < records.len() {
+fn slot_lines(rt: &impl Print, file: &[u8], count: usize, records: &[u32]) -> io::Result<()> {
+    for (i, record) in records.iter().enumerate() {
         if i >= count {
-            return;
+            return Ok(());
         }
-        slot_line(file, records[i]);
-        i += 1;
+        slot_line(rt, file, *record)?;
     }
+    Ok(())
 }
 
 // The listing, then the lines for Names and slots.
-fn list(file: &[u8]) {
+fn list(rt: &impl Print, file: &[u8]) -> io::Result<()> {
     let mut nodes = [0u32; answer::NODES];
     let mut bindings = [0u64; answer::BINDINGS];
     let mut module = [0u32; answer::ENTRIES];
@@ -89,32 +81,30 @@ fn list(file: &[u8]) {
         &mut copies,
         &mut errors,
     );
-    lister::show_all(file);
+    lister::show_all(rt, file)?;
     if a.number == 0 {
-        name_lines(nodefile::nodes(file), &nodes);
-        slot_lines(file, a.slots, &slots);
+        name_lines(rt, nodefile::nodes(file), &nodes)?;
+        slot_lines(rt, file, a.slots, &slots)?;
     }
-    say(b"\xff\xff\xff\xff");
+    rt.write_all(b"\xff\xff\xff\xff")
 }
 
 // Lists the next file; false at the end.
-fn listed(buf: &mut [u8]) -> bool {
-    let next = stream::next(buf);
-    let n = next.length;
+fn listed(rt: &impl Print, input: &mut impl io::Read, buf: &mut [u8]) -> io::Result<bool> {
+    let next = stream::next(input, buf)?;
     if next.more {
-        list(&buf[..n]);
+        list(rt, &buf[..next.length])?;
     }
-    next.more
+    Ok(next.more)
 }
 
-fn main() {
-    let mut buf = io::large_buffer();
-    let mut left: u64 = 4294967295;
-    while left > 0 {
-        if listed(&mut buf) {
-            left -= 1;
-        } else {
-            return;
+fn main(rt: HostRuntime) -> io::Result<()> {
+    let mut input = rt.stdin();
+    let mut buf = [0u8; 65536];
+    for _ in 0..4294967295u64 {
+        if !listed(&rt, &mut input, &mut buf)? {
+            return Ok(());
         }
     }
+    Ok(())
 }

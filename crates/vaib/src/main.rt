@@ -8,27 +8,36 @@ mod say_readers;
 mod usage;
 mod word;
 
-use libc::{STDERR_FILENO, STDIN_FILENO, STDOUT_FILENO};
+use std::env::Env;
+use std::io;
 use word::{Asked, Word};
 
 // What a word makes of the file. One longer than any that is accepted has the answer of its first 65,536 bytes (`judged_front`, crate judge).
-fn run(w: Word) {
-    let mut space = io::large_buffer();
-    let n = io::read_full(STDIN_FILENO, &mut space);
-    match w {
-        Word::List => say_list::show(&space[..n]),
-        Word::Judge => say_judge::show(&space[..n]),
-        Word::Answer => say_answer::show(&space[..n]),
-        Word::Readers => say_readers::show(&space[..n]),
+fn run(rt: &impl Print, input: &mut impl io::Read, word: Word) -> io::Result<()> {
+    let mut space = [0u8; 65536];
+    let n = stream::fill(input, &mut space)?;
+    let file = &space[..n];
+    match word {
+        Word::List => say_list::show(rt, file),
+        Word::Judge => say_judge::show(rt, file),
+        Word::Answer => say_answer::show(rt, file),
+        Word::Readers => say_readers::show(rt, file),
     }
 }
 
-fn main() {
+// What the first argument asks for. One that is missing, or longer than any word, asks for nothing known.
+fn asked(rt: &impl Env) -> Asked {
     let mut space = [0u8; 32];
-    let n = os::arg(1, &mut space);
-    match word::read(&space[..n]) {
-        Asked::Run(w) => run(w),
-        Asked::Help => usage::help(STDOUT_FILENO),
-        Asked::Unknown => usage::line(STDERR_FILENO),
+    match rt.arg(1, &mut space) {
+        Ok(n) => word::read(&space[..n]),
+        Err(_) => Asked::Unknown,
+    }
+}
+
+fn main(rt: HostRuntime) -> io::Result<()> {
+    match asked(&rt) {
+        Asked::Run(word) => run(&rt, &mut rt.stdin(), word),
+        Asked::Help => usage::help(&rt),
+        Asked::Unknown => usage::line(&rt),
     }
 }

@@ -1,8 +1,7 @@
 // `judge`: the number of a file, judging alone.
-use libc::STDOUT_FILENO;
+use std::io;
 
-pub fn show(file: &[u8]) {
-    io::write_all(STDOUT_FILENO, b"answer ");
-    io::print_decimal(STDOUT_FILENO, judge::judge(file));
-    io::write_all(STDOUT_FILENO, b"\n");
+pub fn show(rt: &impl Print, file: &[u8]) -> io::Result<()> {
+    let number = judge::judge(file);
+    println!(rt; "answer {number}")
 }

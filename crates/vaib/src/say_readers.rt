@@ -1,14 +1,5 @@
 // `readers`: for each binding and each global where its readers start in the list, how many they are, and their nodes.
-use libc::STDOUT_FILENO;
-
-fn wide(x: u32) -> u64 {
-    x as u64
-}
-
-fn say(word: &[u8], n: u64) {
-    io::write_all(STDOUT_FILENO, word);
-    io::print_decimal(STDOUT_FILENO, n);
-}
+use std::io;
 
 // So many elements of a list from one on, or as many of them as there are.
 fn part(list: &[u32], from: usize, count: usize) -> &[u32] {
@@ -23,36 +14,40 @@ fn part(list: &[u32], from: usize, count: usize) -> &[u32] {
     &list[from..e]
 }
 
-fn say_nodes(nodes: &[u32]) {
-    let mut i = 0;
-    while i < nodes.len() {
-        say(b" ", wide(nodes[i]));
-        i += 1;
+fn say_nodes(rt: &impl Print, nodes: &[u32]) -> io::Result<()> {
+    for node in nodes {
+        print!(rt; " {node}")?;
     }
-    io::write_all(STDOUT_FILENO, b"\n");
+    rt.write_all(b"\n")
 }
 
 // One binding or global.
-fn say_line(letter: &[u8], k: usize, start: u32, count: u32, list: &[u32]) {
-    say(letter, k as u64);
-    say(b" ", wide(start));
-    say(b" ", wide(count));
-    io::write_all(STDOUT_FILENO, b":");
-    say_nodes(part(list, start as usize, count as usize));
+fn say_line(
+    rt: &impl Print,
+    letter: char,
+    k: usize,
+    start: u32,
+    count: u32,
+    list: &[u32],
+) -> io::Result<()> {
+    print!(rt; "{letter} {k} {start} {count}:")?;
+    say_nodes(rt, part(list, start as usize, count as usize))
 }
 
-fn say_lines(letter: &[u8], starts: &[u32], counts: &[u32], list: &[u32]) {
-    let mut k = 0;
-    while k < starts.len() {
-        if k >= counts.len() {
-            return;
-        }
-        say_line(letter, k, starts[k], counts[k], list);
-        k += 1;
+fn say_lines(
+    rt: &impl Print,
+    letter: char,
+    starts: &[u32],
+    counts: &[u32],
+    list: &[u32],
+) -> io::Result<()> {
+    for (k, (start, count)) in starts.iter().zip(counts).enumerate() {
+        say_line(rt, letter, k, *start, *count, list)?;
     }
+    Ok(())
 }
 
-pub fn show(file: &[u8]) {
+pub fn show(rt: &impl Print, file: &[u8]) -> io::Result<()> {
     let mut nodes = [0u32; answer::NODES];
     let mut bindings = [0u64; answer::BINDINGS];
     let mut module = [0u32; answer::ENTRIES];
@@ -82,20 +77,19 @@ pub fn show(file: &[u8]) {
         &mut global_counts,
         &mut global_list,
     );
-    say(b"answer ", a.number);
-    if a.number != 0 {
-        io::write_all(STDOUT_FILENO, b"\n");
-        return;
+    let number = a.number;
+    if number != 0 {
+        return println!(rt; "answer {number}");
     }
+    let bindings = a.bindings;
     let globals = nodefile::global_count(file) as usize;
-    say(b" bindings ", a.bindings as u64);
-    say(b" globals ", globals as u64);
-    io::write_all(STDOUT_FILENO, b"\n");
-    say_lines(b"R ", part(&starts, 0, a.bindings), &counts, &list);
+    println!(rt; "answer 0 bindings {bindings} globals {globals}")?;
+    say_lines(rt, 'R', part(&starts, 0, bindings), &counts, &list)?;
     say_lines(
-        b"G ",
+        rt,
+        'G',
         part(&global_starts, 0, globals),
         &global_counts,
         &global_list,
-    );
+    )
 }

@@ -18,20 +18,12 @@ pub enum Asked {
 }
 
 pub fn read(text: &[u8]) -> Asked {
-    if check::same(text, b"list") {
-        return Asked::Run(Word::List);
+    match text {
+        b"list" => Asked::Run(Word::List),
+        b"judge" => Asked::Run(Word::Judge),
+        b"answer" => Asked::Run(Word::Answer),
+        b"readers" => Asked::Run(Word::Readers),
+        b"--help" => Asked::Help,
+        _ => Asked::Unknown,
     }
-    if check::same(text, b"judge") {
-        return Asked::Run(Word::Judge);
-    }
-    if check::same(text, b"answer") {
-        return Asked::Run(Word::Answer);
-    }
-    if check::same(text, b"readers") {
-        return Asked::Run(Word::Readers);
-    }
-    if check::same(text, b"--help") {
-        return Asked::Help;
-    }
-    Asked::Unknown
 }
