@@ -1,9 +1,9 @@
 -- The laws of a record's fields, each once over the widths and the place of the field.
 --     unpack-packed, part-packed     reading what was packed gives it back
---     part-changed, part-other       reading a replaced field gives the value, and every other field stays
+--     part-changed, part_other       reading a replaced field gives the value, and every other field stays
 --     changed-packed                 a packed row with a field replaced is the row with that value, packed
 --     changed-sum, changed-is        replacing a field moves the number by the values' difference, times the field's weight
---     part-lt, cut_fits              a field is below its width; a row that fits is not cut
+--     part_lt, cut_fits              a field is below its width; a row that fits is not cut
 use Rattle.std.specs.Prelude.{ℕ, zero, suc, ◌+◌, ◌*◌, ◌/◌, ◌%◌, ◌^◌, ◌<◌, ◌≡◌, refl, List, [], ◌∷◌, length, get_or, set}
 use Rattle.std.proofs.Common.{sym, ap, ap₂, ◌∙◌, subst, arith, mod-lt, mod-eq_of_lt, pow_pos, get_or-set_same, get_or-set_other}
 use Rattle.bits.specs.Pack.{widths, values, total, Narrow, pack, unpack}

@@ -1,6 +1,6 @@
 -- What a list of places holds: as many numbers as fit, and zeros behind.
---     fitted-zeros   scope 0 alone is zeros
---     fitted-more    one number more
+--     fitted_zeros   scope 0 alone is zeros
+--     fitted_more    one number more
 --     holds_more, holds_same, holds-none, holds_as   the same, with their count
 use Prim.Native.Nat.{ℕ, zero, suc, ◌+◌, ◌<◌}
 use mathlib.Core.Path.{◌≡◌, refl, sym, ap, ◌∙◌}

@@ -1,6 +1,6 @@
 -- The scopes of the nodes around a node, one node more.
---     scopes-here, turned   the list of scopes, and that outermost first
---     top-here              the innermost scope
+--     scopes_here, turned   the list of scopes, and that outermost first
+--     top_here              the innermost scope
 --     outside               a node that does not stand among some siblings
 use Rattle.std.specs.Prelude.{ℕ, ◌+◌, ◌*◌, ◌≤◌, ◌<◌, ◌≡◌, Bool, cond}
 use Rattle.std.proofs.Math.Path.{refl}

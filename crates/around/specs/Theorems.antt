@@ -1,8 +1,8 @@
 -- What `scopes` and `outer` give of a file that holds a tree (document 01's conditions give it) is the definition's: `scopes_of` of the nodes around a node.
---     counted-all                 all nodes are counted
---     scopes-around, scopes-are   the scopes around a node, outermost first
---     scopes-few                  64 places are enough for them: a file's tree is no deeper
---     outer-are, outer-else       the scope directly around each Def's and Lambda's own
+--     counted_all                 all nodes are counted
+--     scopes_around, scopes_are   the scopes around a node, outermost first
+--     scopes_few                  64 places are enough for them: a file's tree is no deeper
+--     outer_are, outer_else       the scope directly around each Def's and Lambda's own
 use Rattle.std.specs.Prelude.{ℕ, suc, ◌-◌, ◌*◌, ◌<◌, ◌≤◌, ◌≡◌, length, get_or, replicate}
 use Rattle.std.proofs.Math.Path.{refl, sym, ap}
 use Rattle.std.proofs.Common.{◌∙◌, subst, arith, take_all}

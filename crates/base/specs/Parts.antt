@@ -2,7 +2,7 @@
 --     cut, part-from         `&s[a..a + k]` and `&s[a..]`, as the check has them
 --     drop-take              what is left of a part is a part
 --     part_length            how long a part is that the list holds whole
---     part-past, part-rest   a part from past the end, and one that goes to the end
+--     part_past, part_rest   a part from past the end, and one that goes to the end
 use Rattle.std.specs.Prelude.{ℕ, zero, suc, ◌+◌, ◌-◌, ◌≤◌, ◌≡◌, List, [], ◌∷◌, length, take, drop}
 use Rattle.std.proofs.Common.{sym, ap, ◌∙◌, arith, length-take, length-drop, drop_of_length-le, take_all}
 use Rattle.std.proofs.Math.Nat.{sub-zero, zero-sub, suc-sub-suc, add-sub_cancel_left, min-eq_left}

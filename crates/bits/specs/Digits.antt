@@ -1,5 +1,5 @@
 -- A number cut at a binary digit: what is above the cut, and what is below it.
---     join-lt            a digits over b digits are a + b digits
+--     join_lt            a digits over b digits are a + b digits
 --     bit_high, bit-low  a digit above or below the cut, of two numbers that are equal there
 --     splice             a number with n of its digits replaced, and what each of its parts is then
 use Rattle.std.specs.Prelude.{ℕ, ◌+◌, ◌-◌, ◌*◌, ◌/◌, ◌%◌, ◌^◌, ◌≤◌, ◌<◌, ◌≡◌}

@@ -1,13 +1,13 @@
 -- The laws of a packed field, each stated once over the width.
---     bit-lt, field_lt            a bit is below 2, a field of w bits below 2 ^ w
+--     bit_lt, field_lt            a bit is below 2, a field of w bits below 2 ^ w
 --     field-split                 v + w bits are v bits, then w bits
 --     field-inner                 a field inside a longer one: a shift and a remainder
 --     field-bit                   each bit of a field is a bit of the bytes
---     field-same                  equal bits make equal fields
---     field-drop, field-record, field-take, field_past   a field of a part of the bytes, of a record, and past their end
+--     field_same                  equal bits make equal fields
+--     field-drop, field_record, field-take, field_past   a field of a part of the bytes, of a record, and past their end
 --     field-set                   a field that does not touch the byte that is changed
---     field-in-byte, field-8, field-more, field-16, field-24   a field inside one byte, and of whole bytes
---     field_is, field-wide, field-read     a reader's answer
+--     field_in_byte, field_8, field_more, field_16, field_24   a field inside one byte, and of whole bytes
+--     field_is, field_wide, field_read     a reader's answer
 use Rattle.std.specs.Prelude.{ℕ, zero, suc, ◌+◌, ◌-◌, ◌*◌, ◌/◌, ◌%◌, ◌^◌, ◌≤◌, ◌<◌, ◌≡◌, refl, List, ◌⊎◌, length, get_or, take, drop, set}
 use Rattle.std.proofs.Common.{sym, ap, ap₂, ◌∙◌, subst, inl, inr, arith, mod-lt, pow-suc, mul_assoc, add-zero, add-suc, add_assoc, zero-lt-suc, mul-suc, div-one, mod-eq_of_lt, lt_of_lt_of_le, add-one, le-leb, pow_pos, pow_mono, get_or-drop, get_or-take, get_or-set_other}
 use Rattle.std.proofs.Math.Nat.{div-div-eq-div-mul, mod-one, zero-div}

@@ -1,9 +1,9 @@
 -- The laws of packed numbers, each once over the fields.
---     pack-lt, unpack-pack, pack_one     the number fits, reading gives the values back, no other values give the same number
+--     pack_lt, unpack-pack, pack_one     the number fits, reading gives the values back, no other values give the same number
 --     pack-unpack                        packing what was read gives the number back
 --     fields-unpack                      fields of bytes are those of the number that the bytes are
---     bytes_word, bytes-fields           the bytes of a packed number, read as bytes, give the values
---     written-pack, written-fields       fields written one after the other are the packed number, and read back as they were
+--     bytes_word, bytes_fields           the bytes of a packed number, read as bytes, give the values
+--     written_pack, written_fields       fields written one after the other are the packed number, and read back as they were
 use Rattle.std.specs.Prelude.{ℕ, zero, suc, ◌+◌, ◌*◌, ◌/◌, ◌%◌, ◌^◌, ◌<◌, ◌≡◌, refl, List, [], ◌∷◌, length}
 use Rattle.std.proofs.Common.{sym, ap, ap₂, ◌∙◌, arith, mod-lt, mod-eq_of_lt, mul_assoc, add_comm, zero-lt-suc, pow_pos, pow-add}
 use Rattle.std.proofs.Math.Nat.{mod-one, add-mul-div_right, mul-add-mod_self_right}

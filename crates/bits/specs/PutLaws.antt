@@ -1,8 +1,8 @@
 -- The laws of writing a packed field.
---     written_none, written-more, written_byte   nothing written; one piece before another; a piece inside one byte
---     written-fits       a value that fits reads back as it is
+--     written_none, written_more, written_byte   nothing written; one piece before another; a piece inside one byte
+--     written_fits       a value that fits reads back as it is
 --     written_apart      a field beside the one that is written reads as before; written-part: so does a part of the bytes
---     written-pair       two fields side by side are one
+--     written_pair       two fields side by side are one
 --     written_one        no second list of bytes is left
 use Rattle.std.specs.Prelude.{ℕ, ◌+◌, ◌-◌, ◌*◌, ◌/◌, ◌%◌, ◌^◌, ◌≤◌, ◌<◌, min, ◌≡◌, refl, ◌⊎◌, List, length, get_or, take, drop, set}
 use Rattle.std.proofs.Math.Path.{sym, ap, subst}

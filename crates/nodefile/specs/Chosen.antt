@@ -1,7 +1,7 @@
 -- What is said of those elements of a list that pass a test, against the places where they stand.
---     chosen-append, chosen-tally, chosen-all   one list after another; how many pass; where all pass
---     chosen-in, in-chosen              what is said is said of an element that passes, and the other way
---     chosen-distinct, distinct-chosen  nothing is said twice: no two that pass say the same
+--     chosen_append, chosen-tally, chosen_all   one list after another; how many pass; where all pass
+--     chosen_in, in_chosen              what is said is said of an element that passes, and the other way
+--     chosen_distinct, distinct_chosen  nothing is said twice: no two that pass say the same
 use Prim.Native.Nat.{ℕ, zero, suc, ◌<◌}
 use Rattle.std.proofs.Math.Path.{◌≡◌, refl, sym, ap}
 use Rattle.std.proofs.Common.{◌∙◌, subst, inl, inr}

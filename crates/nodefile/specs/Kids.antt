@@ -1,9 +1,9 @@
 -- A part of the node list that falls into whole nodes, one after the other: "each child is judged from its own stretch" (document 01).
---     kids-first, kids-cons, kids-none   what such a part starts with
---     kids-one                           one list of kinds only
---     fits-dec                           whether a part falls into nodes is decided
---     node-field, kind_at, size-at       a field of the node p nodes into a part, as a reader of the part finds it
---     next, fits_on, fits-back, fits-size   one node on, as a walk by sizes goes
+--     kids_first, kids_cons, kids_none   what such a part starts with
+--     kids_one                           one list of kinds only
+--     fits_dec                           whether a part falls into nodes is decided
+--     node_field, kind_at, size_at_lem   a field of the node p nodes into a part, as a reader of the part finds it
+--     next, fits_on, fits_back, fits_size   one node on, as a walk by sizes goes
 use Rattle.std.specs.Prelude.{ℕ, zero, suc, ◌+◌, ◌-◌, ◌*◌, ◌≤◌, ◌<◌, ◌≡◌, refl, List, [], ◌∷◌, length, drop}
 use Rattle.std.proofs.Common.{sym, ap, ◌∙◌, subst, arith, not-suc-le-zero, add-zero, length-drop, drop-drop}
 use Rattle.std.proofs.Math.Decide.{dec_lt, dec_le}

@@ -1,8 +1,8 @@
 -- The lists that the theory of names makes of a tree, node by node in node order (`listed`), as the bytes have them.
---     listed_in, in-listed, listed-distinct, distinct-listed, listed-tally   for any test of the kind, and anything said of number, kind and value
---     listed-upTo                                                            what is said of every node, as one list
---     nodes-upTo, nodes-count, nodes-distinct, nodes-below                   the node numbers: from the first one on, each once
---     scopeCount, scopes-in, in-scopes, scopes-distinct, distinct-scopes, scopes-tally   the scope numbers of the Defs and Lambdas
+--     listed_in, in_listed, listed_distinct, distinct_listed, listed-tally   for any test of the kind, and anything said of number, kind and value
+--     listed_up_to                                                           what is said of every node, as one list
+--     nodes_up_to, nodes_count, nodes_distinct, nodes_below                  the node numbers: from the first one on, each once
+--     scope_count, scopes_in_lem, in_scopes, scopes_distinct, distinct_scopes, scopes_tally   the scope numbers of the Defs and Lambdas
 use Rattle.std.specs.Prelude.{ℕ, ◌+◌, ◌*◌, ◌≤◌, ◌<◌, ◌≡◌, refl, Bool, true, false, cond, List, ◌∷◌, ◌++◌, length, drop}
 use Rattle.std.proofs.Common.{sym, ap₂, ◌∙◌, subst, arith}
 use Rattle.std.proofs.Math.Path.{ap}

@@ -1,6 +1,6 @@
 -- The nodes of a tree in node order, against the bytes that hold it.
---     Spot, spotsIn          each node with what stands below it, parent first
---     Stands, spot-at        node i of the tree is node i of the bytes: its number, kind, value, and the stretch that holds what is below it
+--     Spot, spots_in         each node with what stands below it, parent first
+--     Stands, spot_at        node i of the tree is node i of the bytes: its number, kind, value, and the stretch that holds what is below it
 use Rattle.std.specs.Prelude.{ℕ, zero, suc, ◌+◌, ◌-◌, ◌*◌, ◌≤◌, ◌<◌, ◌≡◌, refl, List, [], ◌∷◌, ◌++◌, length, take, drop}
 use Rattle.std.proofs.Common.{sym, ap, ◌∙◌, subst, arith, length-append, length-take, take-take, drop-drop}
 use Rattle.std.proofs.Math.Option.{some}

@@ -1,9 +1,9 @@
 -- The tree that a part of the node list holds: nodes stand parent first, and size counts a node and all below it (document 01).
---     reads-one                no second tree is read from a part
---     reads_none, reads-some   the tree of an empty part, and of one that is not
---     reads-kids, reads-fits   a part that holds a tree falls into nodes, of the kinds that the tree begins with
---     reads-length, reads-size the number of nodes, of the part and below the first node
---     reads-root               a part that its first node fills holds one tree
+--     reads_one                no second tree is read from a part
+--     reads_none, reads_some   the tree of an empty part, and of one that is not
+--     reads_kids, reads_fits   a part that holds a tree falls into nodes, of the kinds that the tree begins with
+--     reads_length, reads_size the number of nodes, of the part and below the first node
+--     reads_root               a part that its first node fills holds one tree
 use Rattle.std.specs.Prelude.{ℕ, ◌+◌, ◌-◌, ◌*◌, ◌≤◌, ◌<◌, ◌≡◌, refl, List, [], ◌∷◌, length}
 use Rattle.std.proofs.Common.{sym, ap, ◌∙◌, subst, arith, length-drop}
 use Rattle.base.specs.Parts.{part_length}

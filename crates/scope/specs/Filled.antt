@@ -1,7 +1,7 @@
 -- A list filled from its front, element by element: what the loops of `out` do to a buffer.
 --     filled_none, filled_more   before the first element, and one element more
---     filled-end                 the last
---     filled-all                 every element is the same number
+--     filled_end                 the last
+--     filled_all                 every element is the same number
 use Rattle.std.specs.Prelude.{ℕ, ◌+◌, ◌<◌, ◌≤◌, ◌≡◌, refl, List, length, get_or, set, replicate}
 use Rattle.std.proofs.Common.{sym, ◌∙◌, arith, length-set, get_or-set_same, get_or-set_other, ext_get_or}
 use Rattle.std.proofs.Math.Decide.{ℕ_discrete}

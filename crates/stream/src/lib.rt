@@ -31,6 +31,7 @@ pub fn fill<R: io::Read>(input: &mut R, buf: &mut [u8]) -> io::Result<usize>
     ensures bytes { IfOk result (λ n. Consumes (R.remaining input.old) (R.remaining input.new) (take n buf.new)) }
     ensures front { IfOk result (λ n. IfSome (R.remaining input.old) (λ xs. take n buf.new ≡ take (length buf.old) xs)) }
     ensures end { IfOk result (λ n. n < length buf.old → IsAtEnd (R.remaining input.new)) }
+    ensures kept { length buf.new ≡ length buf.old }
 {
     let mut done = 0;
     while done < buf.len() {
@@ -48,6 +49,7 @@ pub fn next<R: io::Read>(input: &mut R, buf: &mut [u8]) -> io::Result<Read>
     ensures within { IfOk result (λ r. r.length ≤ length buf.new) }
     ensures whole { IfOk result (λ r. r.length ≡ length (take r.length buf.new)) }
     ensures framed { IfOk result (λ r. IsTrue r.more → Framed (R.remaining input.old) (R.remaining input.new) r.length (take r.length buf.new)) }
+    ensures kept { length buf.new ≡ length buf.old }
 {
     let mut head = [0u8; 4];
     let got = fill(input, &mut head)?;

@@ -1,6 +1,6 @@
 -- Bytes of a text: words in quotes, numbers in decimal, pieces one after the other.
 --     decimal-small, decimal_step    what `decimal` is, by its last digit
---     decimal-value, decimal-lead    the digits are those of the number, and the first is 0 for 0 alone
+--     decimal_value, decimal_lead    the digits are those of the number, and the first is 0 for 0 alone
 use Rattle.std.specs.Prelude.{ℕ, zero, suc, ◌+◌, ◌*◌, ◌-◌, ◌/◌, ◌%◌, ◌≤◌, ◌<◌, ◌≡◌, refl, cond, List, [], ◌∷◌, ◌++◌, ltb, get_or}
 use Prim.Native.Char.{code}
 use Prim.Native.String as string

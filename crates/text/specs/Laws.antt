@@ -1,11 +1,11 @@
 -- What callers use of the window.
 --     puts_none, puts_then              no piece; some pieces and then more
---     puts-text, puts-line, puts-is     pieces as one text; the same text in other words
+--     puts_text, puts_line, puts_is     pieces as one text; the same text in other words
 --     rows_none, rows_more, rows_end    a text for each number below n, one after the other: before the first, one more, the last
---     rows-bytes                        a list of bytes, byte by byte
---     window-of                         from the first byte to the last
---     window-part                       what it holds is that part of the text
---     window-one                        no second window fits
+--     rows_bytes                        a list of bytes, byte by byte
+--     window_of                         from the first byte to the last
+--     window_part                       what it holds is that part of the text
+--     window_one                        no second window fits
 use Rattle.std.specs.Prelude.{ℕ, zero, suc, ◌+◌, ◌≤◌, ◌≡◌, refl, List, [], ◌∷◌, ◌++◌, length, get_or, take, drop}
 use Rattle.std.proofs.Common.{sym, ap, ◌∙◌, subst, append-nil, append_assoc, add-one, arith, length-take, length-drop, ext_get_or, take-suc, get_or-take, get_or-drop}
 use Rattle.std.proofs.Math.Seq.{take-length}

@@ -1,7 +1,7 @@
 -- From the bytes of an accepted file to its tree.
---     each-spots     what holds of each node in node order holds of every node of the tree
---     scopes-read    the scope numbers of the bytes are those of the tree
---     params-read    the names of the Params in a stretch are those of the trees that it holds
+--     each_spots     what holds of each node in node order holds of every node of the tree
+--     scopes_read    the scope numbers of the bytes are those of the tree
+--     params_read    the names of the Params in a stretch are those of the trees that it holds
 use Rattle.std.specs.Prelude.{ℕ, suc, ◌+◌, ◌-◌, ◌*◌, ◌/◌, ◌≤◌, ◌<◌, ◌≡◌, refl, Bool, true, false, cond, List, [], ◌∷◌, ◌++◌, eqb, ltb, T, length, drop, replicate}
 use Rattle.std.proofs.Common.{sym, ap, ap₂, ◌∙◌, subst, arith, lt-ltb, le-ltb}
 use Rattle.std.proofs.Math.Option.{some}

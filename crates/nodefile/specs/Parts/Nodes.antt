@@ -1,8 +1,8 @@
 -- Parts of the node list that hold trees: the first node of a part and what follows it, and a part that is one node.
---     kind-take, size-take, value-take   a node's fields, where more or less of what follows it is taken
+--     kind_take, size_take, value_take   a node's fields, where more or less of what follows it is taken
 --     Split, split                       the first node of a part
---     One, one, kids-part, kids-length   a part that is one node, and `&part[8..e]`
---     some-long, Named, named            a part that holds some nodes, and one that starts with a Name
+--     One, one, kids_part, kids_length   a part that is one node, and `&part[8..e]`
+--     some_long, Named, named            a part that holds some nodes, and one that starts with a Name
 use Rattle.std.specs.Prelude.{ℕ, ◌+◌, ◌-◌, ◌*◌, ◌≤◌, ◌<◌, ◌≡◌, refl, List, [], length, take, drop}
 use Rattle.std.proofs.Common.{sym, ◌∙◌, arith, length-take, drop_of_length-le, take-take, length-take-le}
 use Rattle.std.proofs.Math.Path.{ap, subst}

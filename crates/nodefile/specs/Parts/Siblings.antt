@@ -1,8 +1,8 @@
 -- A loop over the nodes of a part that stand one after the other, in the form "what is left".
---     sibling-part, size-from              `&part[i..i + 8 * k]`, the node at byte i, and its size, read from `&part[i..]`
---     Walk, valid-apart                    what a walk over siblings is
---     Left, left-start, left-more, left_end   its invariant
---     Sibling, left-sibling, left_one, left-reads, left-fine, sibling-length, sibling-size   the node at byte i by itself
+--     sibling_part, size_from              `&part[i..i + 8 * k]`, the node at byte i, and its size, read from `&part[i..]`
+--     Walk, valid_apart                    what a walk over siblings is
+--     Left, left_start, left_more, left_end   its invariant
+--     Sibling, left_sibling, left_one, left_reads, left_fine, sibling_length, sibling_size   the node at byte i by itself
 use Rattle.std.specs.Prelude.{ℕ, ◌+◌, ◌-◌, ◌*◌, ◌≤◌, ◌<◌, ◌≡◌, refl, List, length, take, drop}
 use Rattle.std.proofs.Common.{sym, ap, ◌∙◌, subst, arith, length-drop, drop-drop, length-take-le}
 use Rattle.base.specs.Parts.{cut, part-from}

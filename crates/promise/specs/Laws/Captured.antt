@@ -1,5 +1,5 @@
 -- Captured on bytes: the bit of a binding's record is set exactly when some Ident means the binding from another scope; a module name, from inside a function.
---     captured-shown
+--     captured_shown
 use Rattle.std.specs.Prelude.{ℕ, ◌<◌, ◌≤◌, ◌≡◌, refl, ◌↔◌, Bool, true, false, length}
 use Rattle.std.proofs.Math.Path.{sym, ap}
 use Rattle.std.proofs.Common.{◌∙◌, subst, arith}

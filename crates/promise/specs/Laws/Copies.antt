@@ -1,7 +1,7 @@
 -- The copies in the buffer, read back: following them leads where `lexical`'s copies lead, and as many are into each scope.
---     copies-read   the copies' records
---     follow-read   following them
---     into-read     how many are into a scope
+--     copies_read   the copies' records
+--     follow_read   following them
+--     into_read     how many are into a scope
 use Rattle.std.specs.Prelude.{ℕ, suc, ◌<◌, ◌≡◌, refl, cond, List, [], ◌∷◌, map, reverse, eqb, length, get_or, take}
 use Rattle.std.proofs.Common.{sym, ap, ◌∙◌, arith, take_at}
 use Rattle.std.proofs.lemmas.Simd.{map-map}

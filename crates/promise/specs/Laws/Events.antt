@@ -1,6 +1,6 @@
 -- The rows of Idents and Names, and the errors, fit their fields.
---     node-small                                          an Ident's number
---     answer-bounds, name-bounds, error-one, error-fits   row by row
+--     node_small                                          an Ident's number
+--     answer_bounds, name_bounds, error_one, error_fits   row by row
 use Rattle.std.specs.Prelude.{ℕ, ◌<◌, ◌≤◌, refl, Bool, get_or}
 use Rattle.std.proofs.Math.Path.{◌≡◌, sym, ap, subst}
 use Rattle.std.proofs.Common.{◌∙◌}

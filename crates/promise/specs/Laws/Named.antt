@@ -1,5 +1,5 @@
 -- Names on bytes: each Name's record is its binding's slot and number. Nodes that are neither Name nor Ident have none.
---     name-shown, other-empty
+--     name_shown, other_empty
 use Rattle.std.specs.Prelude.{ℕ, ◌+◌, ◌<◌, ◌≤◌, ◌≡◌, Bool, cond, length, get_or}
 use Rattle.std.proofs.Math.Path.{refl, ap, subst}
 use Rattle.std.proofs.Common.{sym, ◌∙◌}

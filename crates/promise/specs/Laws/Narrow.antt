@@ -1,5 +1,5 @@
 -- Every number of every row of an accepted file's records fits its field.
---     bindings-narrow, entries-narrow, scopes-narrow, slots-narrow, copies-narrow, errors-narrow   list by list
+--     bindings_narrow, entries_narrow, scopes_narrow, slots_narrow, copies_narrow, errors_narrow   list by list
 use Prim.Native.Nat.{ℕ, suc, ◌+◌, ◌≤◌}
 use Rattle.std.specs.Prelude.{◌≡◌, cond, not, ◌&&◌, length}
 use Rattle.std.proofs.Math.Path.{refl}

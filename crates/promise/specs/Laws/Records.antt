@@ -1,8 +1,8 @@
 -- The buffers of an accepted file, read record by record.
 --     back                             every record of every list
---     node_at, node-read               a node's
---     binding-read, bound-so           a binding's
---     copies-follow, copies-into       the copies, followed and counted
+--     node_at, node_read               a node's
+--     binding_read, bound_so           a binding's
+--     copies_follow, copies_into_lem   the copies, followed and counted
 use Rattle.std.specs.Prelude.{ℕ, ◌<◌, ◌≤◌, ◌≡◌, length, take}
 use Rattle.std.proofs.Math.Path.{ap}
 use Rattle.std.proofs.Common.{◌∙◌, arith}

@@ -1,5 +1,5 @@
 -- What the buffers of an accepted file say of each Name, each binding, and each local that an Ident means.
---     name-said, local-said, module-said, stops-shown, slot-said
+--     name_said, local_said, module_said, stops_shown, slot_said
 use Prim.Native.Nat.{ℕ, zero, suc, ◌+◌, ◌<◌, ◌≤◌}
 use Rattle.std.specs.Prelude.{◌≡◌, Bool, length}
 use Rattle.std.proofs.Math.Path.{refl, ap, subst}

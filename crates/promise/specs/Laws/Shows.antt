@@ -1,7 +1,7 @@
 -- The buffers of an accepted file, read field by field: a binding's fields, a scope's slots, the copies.
---     made-shown               a binding is what its block makes of its name
---     copy-shown, pairs-shown  each copy's record
---     slot-shown               a slot is below its scope's count
+--     made_shown               a binding is what its block makes of its name
+--     copy_shown, pairs_shown  each copy's record
+--     slot_shown               a slot is below its scope's count
 use Prim.Native.Nat.{ℕ, suc, ◌+◌, ◌<◌, ◌≤◌}
 use Rattle.std.specs.Prelude.{◌≡◌, refl, cond, length, take}
 use Rattle.std.proofs.Common.{sym, ◌∙◌, subst, inl, inr}

@@ -1,5 +1,5 @@
 -- Idents by their nodes: each Ident of the node list is looked up, under the name that its node holds, with the nodes around it.
---     ident-event   the lookup of an Ident
+--     ident_event   the lookup of an Ident
 use Rattle.std.specs.Prelude.{ℕ, zero, suc, ◌+◌, ◌*◌, ◌<◌, ◌≡◌, ◌⊎◌, Bool, true, false, List, [], ◌∷◌, ◌++◌, length}
 use Rattle.std.proofs.Math.Path.{refl, subst}
 use Rattle.std.proofs.Common.{sym, ap, ◌∙◌, inl, inr, ⊎_elim}

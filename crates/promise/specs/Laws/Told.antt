@@ -1,5 +1,5 @@
 -- T1 and T2 on bytes, proved: what the buffers of an accepted file say of each Ident.
---     ident-shown   its record or its error is what its meaning says
+--     ident_shown   its record or its error is what its meaning says
 --     homeward      from a local slot the copies lead to the variable
 use Rattle.std.specs.Prelude.{ℕ, ◌+◌, ◌<◌, ◌≤◌, ◌≡◌, length}
 use Rattle.std.proofs.Math.Path.{refl, sym, ap}

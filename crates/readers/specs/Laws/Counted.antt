@@ -1,6 +1,6 @@
 -- How many nodes pass a test.
 --     passing-tally    the length of the list of those that do
---     tally-like       tests that say the same
+--     tally_like       tests that say the same
 --     tally-both       two tests of which at most one passes, and a third that says whether one does
 use Rattle.std.specs.Prelude.{ℕ, zero, suc, ◌+◌, ◌<◌, ◌≡◌, refl, Bool, true, false, cond, ◌∷◌, [], length}
 use Rattle.std.proofs.Common.{ap, arith, length-append}

@@ -1,6 +1,6 @@
 -- A node's key against its kind and record.
---     binding-keyed, keyed-binding    the key is 1 + k exactly where the node is an Ident whose record names binding k
---     global-keyed, keyed-global      the same of global g
+--     binding_keyed, keyed_binding    the key is 1 + k exactly where the node is an Ident whose record names binding k
+--     global_keyed, keyed_global      the same of global g
 use Rattle.std.specs.Prelude.{ℕ, ◌+◌, ◌<◌, ◌≡◌, refl, Bool, true, false, cond, List, length, get_or}
 use Rattle.std.proofs.Common.{sym, ◌∙◌, arith, eqb-true, eq-eqb}
 use Rattle.base.specs.UpTo.{up_to_length, up_to_get}

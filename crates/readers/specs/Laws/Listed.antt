@@ -1,6 +1,6 @@
 -- The lists of a group, as its buffers give them.
---     listed-from, listed-to    number k's list has the places of its key, and no others
---     listed-once               a place stands in one list, once
+--     listed-from, listed_to    number k's list has the places of its key, and no others
+--     listed_once               a place stands in one list, once
 --     listed-rising             in rising order
 use Rattle.std.specs.Prelude.{ℕ, ◌+◌, ◌-◌, ◌≤◌, ◌<◌, ◌≡◌, List, length, get_or}
 use Rattle.std.proofs.Common.{sym, ap, ◌∙◌, arith}

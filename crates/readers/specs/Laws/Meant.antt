@@ -1,8 +1,8 @@
 -- An Ident's record against its meaning, off T1.
---     binding-known, global-known     what a record names is there
---     means-local, local-means        a record names a local binding exactly where the meaning is that binding's declaration
---     means-module, module-means      a module binding, where the meaning is that binding
---     means-global, global-means      a global, where the meaning is that global
+--     binding_known, global_known     what a record names is there
+--     means_local, local_means        a record names a local binding exactly where the meaning is that binding's declaration
+--     means_module, module_means      a module binding, where the meaning is that binding
+--     means_global, global_means      a global, where the meaning is that global
 use Rattle.std.specs.Prelude.{ℕ, ◌<◌, ◌≡◌, refl, Bool, true, false, List, [], ◌∷◌, get_or}
 use Rattle.std.proofs.Math.Path.{sym, ap, subst}
 use Rattle.std.proofs.Common.{◌∙◌, arith}

@@ -1,6 +1,6 @@
 -- Every number of an accepted file's records fits its field.
---     entry-slots                                      the module entries, as the file has them
---     made-bounds, slot-bounds, copy-bounds            the bindings, the slots, the copies
+--     entry_slots                                      the module entries, as the file has them
+--     made_bounds, slot_bounds, copy_bounds            the bindings, the slots, the copies
 use Rattle.std.specs.Prelude.{ℕ, ◌+◌, ◌*◌, ◌<◌, ◌≤◌, ◌≡◌, length}
 use Rattle.std.proofs.Math.Path.{refl}
 use Rattle.std.proofs.Common.{sym, ap, ◌∙◌, subst, inl, inr, true≢false, arith}

@@ -1,5 +1,5 @@
 -- What holds of every Name node and of every module entry, by name and source, holds of every binding, of the slots' names, and of every Name with its binding's name.
---     Fits, resolved-fit   those of a file's last state
+--     Fits, resolved_fit   those of a file's last state
 use Rattle.std.specs.Prelude.{ℕ, suc, ◌≡◌, refl, Bool, cond}
 use Rattle.std.proofs.Common.{subst}
 use Rattle.std.proofs.Math.Bool.{true, false}

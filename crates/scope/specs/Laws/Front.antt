@@ -1,5 +1,5 @@
 -- A buffer that holds some records, element by element: past the records, and past its end, there are zeros.
---     front-is, front-get   a buffer holds some records if and only if its elements are theirs
+--     front-is, front_get   a buffer holds some records if and only if its elements are theirs
 use Rattle.std.specs.Prelude.{ℕ, zero, suc, ◌-◌, ◌<◌, ◌≤◌, ◌≡◌, refl, List, [], ◌∷◌, ◌++◌, map, length, get_or, replicate}
 use Rattle.std.proofs.Common.{sym, ap, ◌∙◌, arith, length-append, ext_get_or}
 use Rattle.std.proofs.lemmas.List.{length-replicate}

@@ -1,6 +1,6 @@
 -- Elements of lists by a number that they have, and lists of rows that are made element by element.
---     times-at, found_at, first-once   an element that has a number; the first that has it, where one alone has it
---     times-in, in-times               a number in a list
+--     times-at, found_at, first_once   an element that has a number; the first that has it, where one alone has it
+--     times_in, in_times               a number in a list
 --     row_in, row_from                 rows, of which each element gives one or none
 use Prim.Native.Nat.{ℕ, zero, suc, ◌+◌, ◌≤◌}
 use Rattle.std.proofs.Math.Path.{◌≡◌, refl, sym}

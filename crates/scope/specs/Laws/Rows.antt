@@ -1,6 +1,6 @@
 -- A node's answer: no node has two rows among the Names' and the Idents' together, so that its place in the buffer holds the one it has.
---     answer_at, answer-none                the place of a node that has a row, of one that has none
---     error-none, answer-other              those that have none: a node with an error, a node that is neither a Name nor an Ident
+--     answer_at, answer_none                the place of a node that has a row, of one that has none
+--     error_none, answer_other              those that have none: a node with an error, a node that is neither a Name nor an Ident
 use Rattle.std.specs.Prelude.{ℕ, ◌+◌, ◌≤◌, ◌≡◌, refl}
 use Rattle.std.proofs.Math.Path.{ap}
 use mathlib.Core.List.{List, [], ◌∷◌, ◌++◌, map, map-append}

@@ -1,7 +1,7 @@
 -- What holds of every Name node, by its name and its number, holds of every target that is collected, and of every variable that targets make.
---     Each, each-spots   every Name among some nodes and below them; node by node
---     targets-fit        a block's targets
---     merge-fit          the variables of targets
+--     Each, each_spots   every Name among some nodes and below them; node by node
+--     targets_fit        a block's targets
+--     merge_fit          the variables of targets
 use Rattle.std.specs.Prelude.{ℕ, suc, ◌+◌, ◌≡◌, cond, eqb, length}
 use Rattle.std.proofs.Math.Path.{refl}
 use Rattle.std.proofs.Common.{◌∙◌}
