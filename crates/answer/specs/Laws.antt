@@ -7,8 +7,8 @@
 use Rattle.std.specs.Prelude.{ℕ, zero, suc, ◌+◌, ◌*◌, ◌/◌, ◌%◌, ◌^◌, ◌<◌, ◌≡◌, refl, List, [], ◌∷◌, length, get_or, set}
 use Rattle.std.proofs.Common.{sym, ap, ap₂, ◌∙◌, subst, arith, mod-lt, mod-eq_of_lt, pow_pos, get_or-set_same, get_or-set_other}
 use Rattle.bits.specs.Pack.{widths, values, total, Narrow, pack, unpack}
-use Rattle.bits.specs.PackLaws.{unpack-pack, pack-unpack}
-use Rattle.bits.specs.PackLaws as bits
+use Rattle.bits.proofs.PackLaws.{unpack-pack, pack-unpack}
+use Rattle.bits.proofs.PackLaws as bits
 use Rattle.answer.specs.Fields.{fields, packed, cut, part, changed, after}
 
 fields-widths : (ws row : List ℕ) → widths (fields ws row) ≡ ws

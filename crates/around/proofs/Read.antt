@@ -5,7 +5,7 @@ use mathlib.Core.Bool.{Bool}
 use mathlib.Core.List.{List}
 use native.Mathlib.Omega.{arith}
 use lib.ListN.{drop, length-take}
-use Rattle.bits.specs.FieldLaws.{field_lt}
+use Rattle.bits.proofs.FieldLaws.{field_lt}
 use Rattle.nodefile.specs.Node.{Is, kind_of, size_of}
 use Rattle.nodefile.specs.Layout.{node_count, nodes_of}
 use Rattle.nodefile.specs.Listed.{kind_at, is_scope}

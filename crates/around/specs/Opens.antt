@@ -7,8 +7,9 @@ use Rattle.std.proofs.Common.{ap, ◌∙◌, subst, subst₂, arith, eq-eqb, ne_
 use Rattle.lexical.specs.Tree.{Forest, nil, node, empty}
 use Rattle.nodefile.specs.Node.{size_of}
 use Rattle.nodefile.specs.Reads.{Reads}
-use Rattle.nodefile.specs.Trees.{stretch, stretch-length, stretch_size, stretch-after, stretch-below}
-use Rattle.nodefile.specs.Parts.{kind_take, value_take}
+use Rattle.nodefile.specs.Trees.{stretch}
+use Rattle.nodefile.proofs.Laws.Trees.{stretch-length, stretch_size, stretch-after, stretch-below}
+use Rattle.nodefile.proofs.Laws.Parts.{kind_take, value_take}
 use Rattle.nodefile.specs.Listed.{kind_at, size_at, value_at}
 use Rattle.around.specs.Ends.{end_some}
 use Rattle.around.specs.Descent.{end_at}

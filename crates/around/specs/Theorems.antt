@@ -17,7 +17,8 @@ use Rattle.lexical.specs.Tree.{Forest, plain, is_fn, when, top, scopes_in}
 use Rattle.lexical.specs.Binders.{Names}
 use Rattle.lexical.specs.Meaning.{Around, scopes_of}
 use Rattle.lexical.specs.Claims.{ancestors}
-use Rattle.nodefile.specs.Reads.{Reads, reads_length}
+use Rattle.nodefile.specs.Reads.{Reads}
+use Rattle.nodefile.proofs.Laws.Reads.{reads_length}
 use Rattle.nodefile.specs.Height.{height}
 use Rattle.nodefile.specs.Listed.{kind_at, value_at, is_scope}
 use Rattle.nodefile.specs.Layout.{node_count, file_length, nodes_of, nodes_length}

@@ -6,7 +6,8 @@ use Rattle.lexical.specs.Tree.{Forest, nil, node, pick, through, shut}
 use Rattle.lexical.specs.Binders.{Names, Marks, Target, target, head_target, gather, collect}
 use Rattle.lexical.proofs.Laws.Collect.{in_loop, in_load, as_param}
 use Rattle.nodefile.specs.Valid.{Valid}
-use Rattle.nodefile.specs.Parts.{Walk, valid_apart}
+use Rattle.nodefile.specs.Parts.{Walk}
+use Rattle.nodefile.proofs.Laws.Parts.{valid_apart}
 
 pub collect-stop : (N : Names) (m : Marks) (ts : List Target) → ts ++ collect N m nil ≡ ts
 unfolding collect

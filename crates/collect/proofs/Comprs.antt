@@ -16,10 +16,10 @@ use Rattle.store.specs.declared.ids.Marks.{Marks}
 use Rattle.store.specs.Sections.{Mem, mem}
 use Rattle.store.specs.Rel.{R, caps}
 use Rattle.store.specs.Scoping.{Opening, Opened}
-use Rattle.store.specs.Laws.Around.{saved_few}
+use Rattle.store.proofs.Laws.Around.{saved_few}
 use Rattle.target.specs.Target.{marks_of}
-use Rattle.store.specs.Laws.Full.{was_full}
-use Rattle.store.specs.Laws.Around.{env_top}
+use Rattle.store.proofs.Laws.Full.{was_full}
+use Rattle.store.proofs.Laws.Around.{env_top}
 use Rattle.collect.specs.Cycle.{Ghost, Pre, Done}
 use Rattle.collect.specs.Declare.{plain_marks, Compr, PreCompr, ComprDone}
 use Rattle.collect.proofs.Entered.{full_block, block_of, block-ghost, block-done, block_new}

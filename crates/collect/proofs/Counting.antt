@@ -6,12 +6,14 @@ use mathlib.Core.List.{List}
 use native.Mathlib.Omega.{arith}
 use lib.ListN.{length, drop}
 use lib.Dec.{eqb}
-use Rattle.bits.specs.FieldLaws.{field_past}
+use Rattle.bits.proofs.FieldLaws.{field_past}
 use Rattle.lexical.specs.Lists.{eqb-not}
 use Rattle.lexical.specs.Tree.{Forest, nil, node, empty, after, params}
 use Rattle.nodefile.specs.Node.{kind_of, size_of, value_of}
-use Rattle.nodefile.specs.Reads.{Reads, reads_size, count_of}
-use Rattle.nodefile.specs.Parts.{Walk, Left, Sibling, left_end, left_split, left_sibling, left_more}
+use Rattle.nodefile.specs.Reads.{Reads, count_of}
+use Rattle.nodefile.proofs.Laws.Reads.{reads_size}
+use Rattle.nodefile.specs.Parts.{Walk, Left, Sibling}
+use Rattle.nodefile.proofs.Laws.Parts.{left_end, left_split, left_sibling, left_more}
 use Rattle.collect.specs.Declare.{Params}
 
 -- ---- one node

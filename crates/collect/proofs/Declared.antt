@@ -13,10 +13,11 @@ use Rattle.lexical.specs.State.{Row, St}
 use Rattle.lexical.specs.Second.{declare_here, declare_fn}
 use Rattle.lexical.proofs.Theory.Kinds.{no_fn}
 use Rattle.nodefile.specs.Node.{size_of, kind_of, value_of, below}
-use Rattle.nodefile.specs.Reads.{below_length}
+use Rattle.nodefile.proofs.Laws.Reads.{below_length}
 use Rattle.store.specs.declared.ids.State.{State}
 use Rattle.store.specs.Sections.{Mem}
-use Rattle.nodefile.specs.Parts.{kids_part, Named, named}
+use Rattle.nodefile.specs.Parts.{Named}
+use Rattle.nodefile.proofs.Laws.Parts.{kids_part, named}
 use Rattle.collect.specs.Declare.{own_params, Function, PreFunction, FunctionDone, Here, PreHere, HereDone}
 
 -- ---- what a node adds

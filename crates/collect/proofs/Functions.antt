@@ -19,7 +19,7 @@ use Rattle.store.specs.declared.ids.Marks.{Marks}
 use Rattle.store.specs.Sections.{Mem, mem}
 use Rattle.store.specs.Rel.{World, R}
 use Rattle.target.specs.Target.{marks_of}
-use Rattle.store.specs.Laws.Full.{was_full}
+use Rattle.store.proofs.Laws.Full.{was_full}
 use Rattle.collect.specs.Cycle.{Ghost, Pre, Done}
 use Rattle.collect.specs.Declare.{plain_marks, counted, world_of, Unmet, Function, PreFunction, FunctionDone}
 use Rattle.collect.proofs.Entered.{full_block, block_of, block-ghost, block-done, block_new}

@@ -13,8 +13,9 @@ use Rattle.store.specs.Sections.{Mem, Long}
 use Rattle.store.specs.Blocks.{RB}
 use Rattle.target.specs.Target.{marks_of}
 use Rattle.collect.proofs.Collecting.{collecting}
-use Rattle.nodefile.specs.Parts.{Left, Sibling, left_start, left_end, left_sibling, left_one, left_fine, left_reads, left_more, sibling_length, sibling_size}
-use Rattle.store.specs.Laws.Lengths.{Kept, long_kept}
+use Rattle.nodefile.specs.Parts.{Left, Sibling}
+use Rattle.nodefile.proofs.Laws.Parts.{left_start, left_end, left_sibling, left_one, left_fine, left_reads, left_more, sibling_length, sibling_size}
+use Rattle.store.proofs.Laws.Lengths.{Kept, long_kept}
 use Rattle.collect.specs.Cycle.{Ghost, Pre, Pre1, Done}
 
 abbrev Rest : (part : List ℕ) (at : ℕ) (b : Block) (marks : Marks) (s₀ : State) (m₀ : Mem) (s : State) (n i : ℕ) (m : Mem) → Ghost part at b s₀ m₀ → Type 0

@@ -11,9 +11,10 @@ use Rattle.lexical.specs.Binders.{Names}
 use Rattle.lexical.specs.State.{Row, St}
 use Rattle.lexical.specs.Second.{declare}
 use Rattle.nodefile.specs.Node.{size_of, kind_of, value_of, below}
-use Rattle.nodefile.specs.Reads.{Reads, count_of, reads_none, reads_length, reads_size}
+use Rattle.nodefile.specs.Reads.{Reads, count_of}
+use Rattle.nodefile.proofs.Laws.Reads.{reads_none, reads_length, reads_size}
 use Rattle.nodefile.specs.Valid.{Valid}
-use Rattle.nodefile.specs.Parts.{kind_take, size_take, value_take}
+use Rattle.nodefile.proofs.Laws.Parts.{kind_take, size_take, value_take}
 
 -- the part t, whose first node has the number n, holds these forests, one after the other
 abbrev pub Stand : List ℕ → ℕ → List Forest → Type 0

@@ -13,7 +13,8 @@ use Rattle.store.specs.declared.ids.Marks.{Marks}
 use Rattle.store.specs.Sections.{Mem}
 use Rattle.store.specs.Blocks.{RB}
 use Rattle.target.specs.Target.{marks_of, Meets, PreTarget, DoneTarget}
-use Rattle.nodefile.specs.Parts.{alone, One, one, kids_length, Named, named}
+use Rattle.nodefile.specs.Parts.{alone, One, Named}
+use Rattle.nodefile.proofs.Laws.Parts.{one, kids_length, named}
 use Rattle.collect.proofs.Collecting.{shut_node, name_node, def_node}
 use Rattle.collect.specs.Cycle.{Ghost, Pre, Pre1, Done}
 

@@ -11,12 +11,12 @@ use Rattle.store.specs.declared.ids.State.{State}
 use Rattle.store.specs.Sections.{mem}
 use Rattle.store.specs.Meanings.{Range}
 use Rattle.store.specs.Rel.{World, Rel}
-use Rattle.store.specs.Laws.Made.{made_skip}
-use Rattle.store.specs.Laws.Slots.{slots_params, slots_skip_t}
-use Rattle.store.specs.Laws.Copied.{copies_skip, errors_skip}
-use Rattle.store.specs.Laws.Nodes.{nodes_skip}
-use Rattle.store.specs.Laws.Around.{env_skip}
-use Rattle.store.specs.Laws.Names.{names_skip, ranges_put, scratch_skip}
+use Rattle.store.proofs.Laws.Made.{made_skip}
+use Rattle.store.proofs.Laws.Slots.{slots_params, slots_skip_t}
+use Rattle.store.proofs.Laws.Copied.{copies_skip, errors_skip}
+use Rattle.store.proofs.Laws.Nodes.{nodes_skip}
+use Rattle.store.proofs.Laws.Around.{env_skip}
+use Rattle.store.proofs.Laws.Names.{names_skip, ranges_put, scratch_skip}
 
 module _ {W : World} {env : List Binding} {ss : List ℕ} {cap : ℕ → Bool} {st : St} {s : State} {binds w t : List ℕ} (r : Rel W env ss cap st s (mem binds w t)) where
   -- scope k has n parameter variables: `set_param_count`

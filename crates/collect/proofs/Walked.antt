@@ -13,7 +13,7 @@ use Rattle.lexical.specs.Second.{second}
 use Rattle.store.specs.declared.ids.State.{State}
 use Rattle.store.specs.Sections.{Mem, Long}
 use Rattle.store.specs.Rel.{R}
-use Rattle.store.specs.Laws.Lengths.{Kept, long_kept}
+use Rattle.store.proofs.Laws.Lengths.{Kept, long_kept}
 use Rattle.collect.specs.Declare.{world_of, PreHere, HereDone, AllNodes, PreAll, AllDone}
 use Rattle.collect.proofs.Ordered.{stand_one, stand_end}
 use Rattle.collect.proofs.Going.{Going, Next, next, n_here, n_more}

@@ -17,7 +17,7 @@ use Rattle.store.specs.declared.ids.State.{State}
 use Rattle.store.specs.Sections.{Mem, mem}
 use Rattle.store.specs.Rel.{Rel, R, caps}
 use Rattle.store.specs.Blocks.{local_block}
-use Rattle.store.specs.Laws.Lengths.{Kept, long_kept}
+use Rattle.store.proofs.Laws.Lengths.{Kept, long_kept}
 use Rattle.nodefile.specs.Valid.{Some}
 use Rattle.store.specs.Scoping.{Numbered, Closing, Closed}
 use Rattle.target.specs.Whole.{block-is, block-numbered, block_owner, block-range}

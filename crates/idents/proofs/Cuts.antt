@@ -14,9 +14,10 @@ use Rattle.nodefile.specs.Reads.{Reads}
 use Rattle.store.specs.declared.ids.State.{State}
 use Rattle.store.specs.Sections.{Mem, Long}
 use Rattle.store.specs.Rel.{R}
-use Rattle.store.specs.Laws.Lengths.{Kept, long_kept}
+use Rattle.store.proofs.Laws.Lengths.{Kept, long_kept}
 use Rattle.nodefile.specs.Valid.{Some}
-use Rattle.nodefile.specs.Parts.{alone, Split, split, some_long}
+use Rattle.nodefile.specs.Parts.{alone, Split}
+use Rattle.nodefile.proofs.Laws.Parts.{split, some_long}
 use Rattle.idents.specs.Cycle.{Ghost, Pre, Pre1, PreKind, Done, LastAt}
 use Rattle.idents.proofs.Fine.{Fine, fine_apart}
 use Rattle.idents.proofs.Resolving.{clause_node}

@@ -13,7 +13,7 @@ use Rattle.lexical.specs.Tree.{Forest, nil, node, scopes_in, ◌⊕◌, listed}
 use Rattle.lexical.proofs.Laws.Nodes.{scopes_def, scopes_lambda, scopes_others}
 use Rattle.nodefile.specs.Height.{height}
 use Rattle.nodefile.specs.Valid.{Valid}
-use Rattle.nodefile.specs.Parts.{valid_apart}
+use Rattle.nodefile.proofs.Laws.Parts.{valid_apart}
 
 -- ss: the scopes around
 pub record Fine (ss : List ℕ) (f : Forest) : Type 0 where

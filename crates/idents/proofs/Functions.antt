@@ -13,7 +13,7 @@ use Rattle.lexical.specs.State.{Binding}
 use Rattle.nodefile.specs.Node.{kind_of, value_of}
 use Rattle.store.specs.declared.ids.State.{State}
 use Rattle.store.specs.Sections.{Mem, mem, Long}
-use Rattle.store.specs.Laws.Lengths.{Kept, long_kept}
+use Rattle.store.proofs.Laws.Lengths.{Kept, long_kept}
 use Rattle.nodefile.specs.Valid.{Some, NameFirst}
 use Rattle.lookup.specs.Enter.{OwnedIn, Entering, Entered, Leaving, Left}
 use Rattle.idents.specs.Cycle.{Ghost, Pre, Pre1, PreDef, Done, DoneAny, Parted, LastAt}

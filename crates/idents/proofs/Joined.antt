@@ -7,8 +7,9 @@ use lib.ListN.{length, drop, length-append}
 use lib.Seq.{take-append_seam, drop-append-le}
 use Rattle.lexical.specs.Tree.{Forest, nil, node, ◌⊕◌}
 use Rattle.nodefile.specs.Node.{kind_of, size_of, value_of, below, after}
-use Rattle.nodefile.specs.Reads.{Reads, after-length}
-use Rattle.nodefile.specs.Parts.{kind_take, size_take, value_take, below-take}
+use Rattle.nodefile.specs.Reads.{Reads}
+use Rattle.nodefile.proofs.Laws.Reads.{after-length}
+use Rattle.nodefile.proofs.Laws.Parts.{kind_take, size_take, value_take, below-take}
 
 pub joined_more : (f : Forest) (a k v : ℕ) (kids g : Forest) → f ⊕ node a k v kids g ≡ (f ⊕ node a k v kids nil) ⊕ g
 unfolding ◌⊕◌

@@ -10,7 +10,7 @@ use Rattle.nodefile.specs.Node.{size_of, kind_of}
 use Rattle.store.specs.declared.ids.State.{State}
 use Rattle.store.specs.Sections.{Mem}
 use Rattle.nodefile.specs.Valid.{Some}
-use Rattle.nodefile.specs.Parts.{some_long}
+use Rattle.nodefile.proofs.Laws.Parts.{some_long}
 use Rattle.idents.specs.Cycle.{Pre1, Done}
 use Rattle.idents.proofs.Steps.{k_start, k_end, any_done, x-one, x_kids_length, x_kids_pre, x_others, x_type}
 use Rattle.idents.proofs.Functions.{name_some}

@@ -13,7 +13,7 @@ use Rattle.lexical.proofs.Laws.Visit.{each, walk_plain}
 use Rattle.store.specs.declared.ids.State.{State}
 use Rattle.store.specs.Sections.{Mem}
 use Rattle.store.specs.Rel.{World, Rel, R, Over}
-use Rattle.store.specs.Laws.Full.{over_kept, not_over, open_before}
+use Rattle.store.proofs.Laws.Full.{over_kept, not_over, open_before}
 
 over_each : (N : Names) (D : ℕ → List Binding) (out : ℕ → Outer) (f : Forest) (c : Ctx) (st : St) → Over st → Over (each N D out f c st)
 over_each N D out f c st h = subst Over (walk_plain N D out f 0 [] true c st) (every_walk Over over_kept N D out f plain 0 [] true c st h)

@@ -15,9 +15,10 @@ use Rattle.nodefile.specs.Reads.{Reads}
 use Rattle.store.specs.declared.ids.State.{State}
 use Rattle.store.specs.Sections.{Mem, Long}
 use Rattle.store.specs.Rel.{R}
-use Rattle.store.specs.Laws.Lengths.{Kept, long_kept}
+use Rattle.store.proofs.Laws.Lengths.{Kept, long_kept}
 use Rattle.lookup.specs.Lookup.{Ident, IdentDone}
-use Rattle.nodefile.specs.Parts.{alone, One, one, kids_length, Split, Walk, Left, Sibling, left_start, left_end, left_split, left_sibling, left_one, left_fine, left_reads, left_more, sibling_length, sibling_size}
+use Rattle.nodefile.specs.Parts.{alone, One, Split, Walk, Left, Sibling}
+use Rattle.nodefile.proofs.Laws.Parts.{one, kids_length, left_start, left_end, left_split, left_sibling, left_one, left_fine, left_reads, left_more, sibling_length, sibling_size}
 use Rattle.idents.specs.Cycle.{Ghost, Pre, Pre1, PreKind, Done, DoneAny, resolved_at}
 use Rattle.idents.proofs.Fine.{Fine, fine_kids, fine_opened}
 use Rattle.idents.proofs.Joined.{reads_joined}

@@ -8,8 +8,10 @@ use lib.ListN.{length, take, drop, length-drop}
 use lib.Seq.{take-add, drop-drop, length-take-le}
 use Rattle.lexical.specs.Tree.{Forest, nil, node, ◌⊕◌}
 use Rattle.nodefile.specs.Node.{kind_of, size_of, value_of, after}
-use Rattle.nodefile.specs.Reads.{Reads, reads_none}
-use Rattle.nodefile.specs.Parts.{alone, Split, split, some_long}
+use Rattle.nodefile.specs.Reads.{Reads}
+use Rattle.nodefile.proofs.Laws.Reads.{reads_none}
+use Rattle.nodefile.specs.Parts.{alone, Split}
+use Rattle.nodefile.proofs.Laws.Parts.{split, some_long}
 use Rattle.idents.specs.Cycle.{Parted, LastAt}
 use Rattle.idents.proofs.Joined.{joined_more, reads_joined}
 

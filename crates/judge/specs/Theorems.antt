@@ -15,9 +15,11 @@ use Rattle.lexical.proofs.Laws.Scopes.{once_scoped}
 use Rattle.nodefile.specs.Node.{kind_of, value_of, below}
 use Rattle.nodefile.specs.Layout.{name_count, entry_count, nodes_of, names_of, pool_of, entries_of, nodes_length}
 use Rattle.nodefile.specs.Lists.{name_off, name_len}
-use Rattle.nodefile.specs.Reads.{Reads, reads_kids, reads_length, reads_root}
-use Rattle.nodefile.specs.Order.{Spot, spots_in, spots_count, spot_at}
-use Rattle.nodefile.specs.Trees.{tree}
+use Rattle.nodefile.specs.Reads.{Reads}
+use Rattle.nodefile.proofs.Laws.Reads.{reads_kids, reads_length, reads_root}
+use Rattle.nodefile.specs.Order.{Spot, spots_in}
+use Rattle.nodefile.proofs.Laws.Order.{spots_count, spot_at}
+use Rattle.nodefile.proofs.Laws.Trees.{tree}
 use Rattle.nodefile.specs.FileOf.{entry_of, file_of}
 use Rattle.base.specs.Says.{unless, unless_not, holds}
 use Rattle.header.specs.Header.{HeaderOk, header_ok}

@@ -15,8 +15,8 @@ use Rattle.store.specs.declared.ids.State.{State}
 use Rattle.store.specs.Sections.{mem}
 use Rattle.store.specs.Image.{MadeIn}
 use Rattle.store.specs.Rel.{World, Rel}
-use Rattle.store.specs.Laws.Around.{env_top}
-use Rattle.store.specs.Laws.Made.{made_few, made_owner, made_cap, made_captured}
+use Rattle.store.proofs.Laws.Around.{env_top}
+use Rattle.store.proofs.Laws.Made.{made_few, made_owner, made_cap, made_captured}
 use Rattle.lookup.specs.Lookup.{Capturing, Captured}
 
 module _ {W : World} {env : List Binding} {ss : List ℕ} {cap : ℕ → Bool} {st : St} {s : State} {binds w t : List ℕ} (rel : Rel W env ss cap st s (mem binds w t)) where

@@ -15,14 +15,14 @@ use Rattle.store.specs.declared.ids.Brought.{Brought}
 use Rattle.store.specs.Sections.{Mem, mem}
 use Rattle.store.specs.Words.{pair_word, copied_word, more_word}
 use Rattle.store.specs.Rel.{World, Rel}
-use Rattle.store.specs.Laws.Made.{made_few, made_name, made_skip}
-use Rattle.store.specs.Laws.Slots.{fresh_few, fresh_read, slots_skip_w, slots_push}
-use Rattle.store.specs.Laws.Copied.{copies_push, copies_skip, errors_skip}
-use Rattle.store.specs.Laws.Nodes.{nodes_skip}
-use Rattle.store.specs.Laws.Around.{env_skip}
-use Rattle.store.specs.Laws.Names.{names_skip, ranges_skip, scratch_skip}
+use Rattle.store.proofs.Laws.Made.{made_few, made_name, made_skip}
+use Rattle.store.proofs.Laws.Slots.{fresh_few, fresh_read, slots_skip_w, slots_push}
+use Rattle.store.proofs.Laws.Copied.{copies_push, copies_skip, errors_skip}
+use Rattle.store.proofs.Laws.Nodes.{nodes_skip}
+use Rattle.store.proofs.Laws.Around.{env_skip}
+use Rattle.store.proofs.Laws.Names.{names_skip, ranges_skip, scratch_skip}
 use Rattle.lookup.specs.Bring.{Reached, Copying, Copied}
-use Rattle.store.specs.Laws.Full.{over_full, never_both}
+use Rattle.store.proofs.Laws.Full.{over_full, never_both}
 
 -- the stores
 abbrev pub copy_stored : List ℕ → ℕ → ℕ → ℕ → ℕ → List ℕ

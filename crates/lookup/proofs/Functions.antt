@@ -13,11 +13,11 @@ use Rattle.store.specs.Sections.{mem}
 use Rattle.store.specs.Meanings.{Range, SavedAll}
 use Rattle.store.specs.Rel.{Rel, caps}
 use Rattle.store.specs.Scoping as scoping
-use Rattle.store.specs.Laws.Points.{absent_past}
-use Rattle.store.specs.Laws.Around.{env_enter, env_leave}
-use Rattle.store.specs.Laws.Reach.{rest, with_around, rest_skip, rest_state}
+use Rattle.store.proofs.Laws.Points.{absent_past}
+use Rattle.store.proofs.Laws.Around.{env_enter, env_leave}
+use Rattle.store.proofs.Laws.Reach.{rest, with_around, rest_skip, rest_state}
 use Rattle.lookup.specs.Enter.{Entering, Entered, Leaving, Left}
-use Rattle.store.specs.Laws.Full.{never_both}
+use Rattle.store.proofs.Laws.Full.{never_both}
 
 -- a local in reach stands among the bindings
 saved_stands : (env made : List Binding) (t : List ℕ) → SavedAll env made t → (k : ℕ) (b : Binding) → get_elem? env k ≡ some b → get_elem? made b.id ≡ some b

@@ -17,7 +17,7 @@ use Rattle.store.specs.declared.ids.Resolved.{Resolved}
 use Rattle.store.specs.Sections.{Mem, mem}
 use Rattle.store.specs.Rel.{R, caps, Over}
 use Rattle.lookup.specs.Lookup.{looked, caps_with, Named, NamedDone, Keeping, Kept, Ident, IdentDone}
-use Rattle.store.specs.Laws.Full.{over_kept, never_both}
+use Rattle.store.proofs.Laws.Full.{over_kept, never_both}
 use Rattle.lookup.proofs.Captures.{rel_caps}
 
 -- ---- `lexical`'s lookup is: looked up, then logged

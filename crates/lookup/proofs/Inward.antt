@@ -15,9 +15,9 @@ use Rattle.store.specs.declared.ids.Hand.{Hand}
 use Rattle.store.specs.declared.ids.Hand.TheVariants.{At, Nothing}
 use Rattle.store.specs.Sections.{Mem, mem}
 use Rattle.store.specs.Hands.{hand_of, Slotted}
-use Rattle.store.specs.Laws.Made.{made_few, made_slot}
+use Rattle.store.proofs.Laws.Made.{made_few, made_slot}
 use Rattle.lookup.specs.Bring.{Copying, Copied, Bringing, Brings}
-use Rattle.store.specs.Laws.Full.{over_kept, never_both}
+use Rattle.store.proofs.Laws.Full.{over_kept, never_both}
 use Rattle.lookup.proofs.Levels.{bring_here, bring-copied, hand-small, hand_at, hand-nothing, Innermost, innermost, length_none}
 
 module _ {level id : ℕ} {s : State} {binds w t : List ℕ} where

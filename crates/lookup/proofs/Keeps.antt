@@ -20,12 +20,12 @@ use Rattle.store.specs.Sections.{mem}
 use Rattle.store.specs.Words.{row_node, row_word, answer_word, pair_word}
 use Rattle.store.specs.Image.{ErrorsIn, NodesIn}
 use Rattle.store.specs.Rel.{World, Rel, R, caps, too_many_errors}
-use Rattle.store.specs.Laws.Points.{Off}
-use Rattle.store.specs.Laws.Slots.{slots_skip_w}
-use Rattle.store.specs.Laws.Copied.{copies_skip, errors_skip, errors_push}
-use Rattle.store.specs.Laws.Nodes.{nodes_skip, nodes_answer, nodes_quiet}
+use Rattle.store.proofs.Laws.Points.{Off}
+use Rattle.store.proofs.Laws.Slots.{slots_skip_w}
+use Rattle.store.proofs.Laws.Copied.{copies_skip, errors_skip, errors_push}
+use Rattle.store.proofs.Laws.Nodes.{nodes_skip, nodes_answer, nodes_quiet}
 use Rattle.lookup.specs.Lookup.{res_of, caps_with, SmallSlot, slot_answer, ErrorAdded, Small, Keeping, Kept}
-use Rattle.store.specs.Laws.Full.{never_both}
+use Rattle.store.proofs.Laws.Full.{never_both}
 use Rattle.lookup.proofs.Captures.{rel_caps}
 
 -- ---- the row that an outcome has

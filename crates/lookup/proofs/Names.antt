@@ -21,9 +21,9 @@ use Rattle.store.specs.declared.ids.Resolution.TheVariants as res
 use Rattle.store.specs.Sections.{Mem, mem, plus}
 use Rattle.store.specs.Meanings.{number_of}
 use Rattle.store.specs.Rel.{caps}
-use Rattle.store.specs.Laws.Around.{number-some, number-none, saved_found}
+use Rattle.store.proofs.Laws.Around.{number-some, number-none, saved_found}
 use Rattle.lookup.specs.Lookup.{res_of, looked, as_global, Small, Locally, LocalDone, InModule, ModuleDone, Named, NamedDone, Found'}
-use Rattle.store.specs.Laws.Full.{never_both}
+use Rattle.store.proofs.Laws.Full.{never_both}
 use Rattle.lookup.proofs.Captures.{rel_caps}
 
 -- ---- numbers (+ 1) of what is there

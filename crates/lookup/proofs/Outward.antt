@@ -20,10 +20,10 @@ use Rattle.store.specs.declared.ids.Resolution.TheVariants as res
 use Rattle.store.specs.declared.ids.Slot.TheVariants as slot
 use Rattle.store.specs.Sections.{mem}
 use Rattle.store.specs.Rel.{Rel, caps}
-use Rattle.store.specs.Laws.Points.{absent_past}
-use Rattle.store.specs.Laws.Made.{made_few, made_slot}
+use Rattle.store.proofs.Laws.Points.{absent_past}
+use Rattle.store.proofs.Laws.Made.{made_few, made_slot}
 use Rattle.lookup.specs.Lookup.{res_of, Small, InModule, ModuleDone}
-use Rattle.store.specs.Laws.Full.{never_both}
+use Rattle.store.proofs.Laws.Full.{never_both}
 use Rattle.lookup.proofs.Captures.{rel_noted, rel_unnoted}
 
 -- ---- the module

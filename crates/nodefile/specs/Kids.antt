@@ -8,7 +8,7 @@ use Rattle.std.specs.Prelude.{ℕ, zero, suc, ◌+◌, ◌-◌, ◌*◌, ◌≤�
 use Rattle.std.proofs.Common.{sym, ap, ◌∙◌, subst, arith, not-suc-le-zero, add-zero, length-drop, drop-drop}
 use Rattle.std.proofs.Math.Decide.{dec_lt, dec_le}
 use Rattle.bits.specs.Field.{field_of}
-use Rattle.bits.specs.FieldLaws.{field_record}
+use Rattle.bits.proofs.FieldLaws.{field_record}
 use Rattle.nodefile.specs.Node.{kind_of, size_of, after}
 
 -- the kinds of the nodes that a part falls into

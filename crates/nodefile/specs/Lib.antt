@@ -4,7 +4,6 @@ pub mod Limits
 pub mod Lists
 pub mod FileOf
 pub mod Kids
-pub mod Fitting
 pub mod Reads
 pub mod Height
 pub mod Trees
@@ -14,6 +13,5 @@ pub mod Parts
 pub mod Nested
 pub mod Chosen
 pub mod Listed
-pub mod FileLaws
 pub mod Tabled
 pub mod Example

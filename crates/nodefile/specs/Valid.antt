@@ -1,5 +1,5 @@
 -- What judging leaves of a tree, node by node, as far as the walks need it (document 01: numbers 7, 8 and 10, and the table of kinds).
-use Rattle.std.specs.Prelude.{ℕ, ◌<◌, ◌≤◌, ◌≡◌, Bool, true, false}
+use Rattle.std.specs.Prelude.{ℕ, ◌<◌, ◌≤◌, ◌≡◌}
 use Rattle.lexical.specs.Tree.{Forest, nil, node}
 
 -- there is a first child

@@ -20,14 +20,14 @@ use Rattle.lexical.specs.Records.{bit}
 use Rattle.nodefile.specs.Layout.{entry_count, entries_of}
 use Rattle.nodefile.specs.Lists.{entry_name, entry_public, entry_slot}
 use Rattle.nodefile.specs.FileOf.{entry_of, file_of}
-use Rattle.nodefile.specs.FileLaws.{entries_at}
+use Rattle.nodefile.proofs.Laws.FileLaws.{entries_at}
 use Rattle.store.specs.Sections.{plus, or_zero}
 use Rattle.store.specs.Words.{binding_word}
 use Rattle.store.specs.Image.{Sound, MadeIn}
 use Rattle.store.specs.Blocks.{module_block, placed_from, vars_of, titles}
-use Rattle.store.specs.Laws.Points.{past}
-use Rattle.store.specs.Laws.Made.{made_skip, made_push}
-use Rattle.store.specs.Laws.Placed.{placed_length, placed_snoc, placed_entry}
+use Rattle.store.proofs.Laws.Points.{past}
+use Rattle.store.proofs.Laws.Made.{made_skip, made_push}
+use Rattle.store.proofs.Laws.Placed.{placed_length, placed_snoc, placed_entry}
 use Rattle.note.specs.Filled.{Blank}
 use Rattle.note.specs.Noted.{ListsOk, Entered}
 use Rattle.note.proofs.Filling.{numbers-none, numbers_more}

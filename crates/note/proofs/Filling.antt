@@ -10,8 +10,8 @@ use lib.ListN.{length, get_or, set, length-set}
 use lib.Seq.{get_or-set_same, get_or-set_other}
 use Rattle.lexical.specs.Lists.{place, or_else, or_else_none, eqb_self, eqb-not}
 use Rattle.store.specs.Sections.{plus}
-use Rattle.store.specs.Laws.Points.{point_set}
-use Rattle.store.specs.Laws.Names.{place_snoc}
+use Rattle.store.proofs.Laws.Points.{point_set}
+use Rattle.store.proofs.Laws.Names.{place_snoc}
 use Rattle.note.specs.Filled.{Filled, Blank}
 use Rattle.note.specs.Noted.{NumbersNoted, unless_noted}
 

@@ -12,12 +12,12 @@ use Rattle.lexical.specs.Binders.{load_shown}
 use Rattle.lexical.specs.Records.{bit}
 use Rattle.nodefile.specs.Layout.{reexport, entry_count, global_count}
 use Rattle.nodefile.specs.FileOf.{file_of}
-use Rattle.nodefile.specs.FileLaws.{entries_count}
+use Rattle.nodefile.proofs.Laws.FileLaws.{entries_count}
 use Rattle.store.specs.Sections.{or_zero}
 use Rattle.store.specs.Image.{MadeIn}
 use Rattle.store.specs.Blocks.{module_block, vars_of}
-use Rattle.store.specs.Laws.Points.{Off, Zeros}
-use Rattle.store.specs.Laws.Made.{made_none}
+use Rattle.store.proofs.Laws.Points.{Off, Zeros}
+use Rattle.store.proofs.Laws.Made.{made_none}
 use Rattle.note.specs.Filled.{Blank}
 use Rattle.note.specs.Noted.{HiddenNoted, NumbersNoted, globals_up_to, Entered, Noted}
 

@@ -1,7 +1,7 @@
 -- A section of a working list that is filled: its places hold what a function gives, and every other place what it held before.
 use Rattle.std.specs.Prelude.{ℕ, ◌≡◌, List, length, get_or}
 use Rattle.store.specs.Sections.{Point}
-use Rattle.store.specs.Laws.Points.{Off}
+use Rattle.store.proofs.Laws.Points.{Off}
 
 pub record Filled (base n : ℕ) (f : ℕ → ℕ) (t t' : List ℕ) : Type 0 where
   pub long : length t' ≡ length t

@@ -9,7 +9,7 @@ ghost use Rattle.nodefile.specs.FileOf.{file_of};
 ghost use Rattle.store.specs.Sections.{mod_at, glob_at, hidden_at, many_names, many_bindings, t_length};
 ghost use Rattle.store.specs.Image.{MadeIn};
 ghost use Rattle.store.specs.Blocks.{module_block, vars_of};
-ghost use Rattle.store.specs.Laws.Points.{Zeros};
+ghost use Rattle.store.proofs.Laws.Points.{Zeros};
 ghost use Rattle.note.specs.Filled.{Blank};
 ghost use Rattle.note.specs.Noted.{ListsOk, HiddenNoted, NumbersNoted, unless_noted, globals_up_to, Entered, Noted};
 

@@ -1,5 +1,2 @@
 pub mod Shown
 pub mod Said
-pub mod Laws
-pub mod Theorems
-pub mod Whole

@@ -18,7 +18,7 @@ use Rattle.answer.specs.Buffers.{Buffers}
 use Rattle.scope.specs.Answer.{Resolves}
 use Rattle.group.specs.Sums.{sum}
 use Rattle.promise.specs.Shown.{source_of, local_of}
-use Rattle.promise.specs.Theorems.{a_tree}
+use Rattle.promise.proofs.Theorems.{a_tree}
 use Rattle.readers.specs.Keys.{of_binding, of_global}
 use Rattle.readers.specs.Lists.{Lists}
 use Rattle.readers.specs.Readers.{reading, Readers}

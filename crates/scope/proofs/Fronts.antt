@@ -6,7 +6,7 @@ use native.Mathlib.Omega.{arith}
 use native.Mathlib.Decide.{dec_lt}
 use lib.ListN.{length, get_or, length-map}
 use Rattle.store.specs.Sections.{Point, word_at}
-use Rattle.store.specs.Laws.Points.{Zeros}
+use Rattle.store.proofs.Laws.Points.{Zeros}
 use Rattle.target.specs.Alike.{map_like}
 use Rattle.answer.specs.Buffers.{Front}
 use Rattle.scope.specs.Filled.{Filled}

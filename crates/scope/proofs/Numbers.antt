@@ -9,7 +9,7 @@ use Rattle.base.specs.UpTo.{up_to}
 use Rattle.base.specs.First.{First, here, later}
 use Rattle.lexical.specs.Module.{File}
 use Rattle.lexical.specs.Records.{records}
-use Rattle.store.specs.Laws.Points.{Zeros, zeros}
+use Rattle.store.proofs.Laws.Points.{Zeros, zeros}
 use Rattle.judge.specs.Cond.{Judged}
 use Rattle.answer.specs.declared.Answer.{Answer}
 use Rattle.answer.specs.Buffers.{Buffers, Short, short_nodes, short_bindings, short_entries, short_scopes, short_slots, short_copies, short_errors, Front, Zeroed}

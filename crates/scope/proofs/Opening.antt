@@ -20,10 +20,10 @@ use Rattle.store.specs.Image.{SlotsIn, Image, last_from, before}
 use Rattle.store.specs.Meanings.{number_of, SavedAll, Stacked, EnvIn, RangesIn}
 use Rattle.store.specs.Rel.{Rel, caps}
 use Rattle.store.specs.Blocks.{module_block, nothing, block_st, block_world, slots_of, bindings_of, vars_of, InBlock}
-use Rattle.store.specs.Laws.Points.{Zeros, point_none}
-use Rattle.store.specs.Laws.Copied.{copies_none, errors-none}
-use Rattle.store.specs.Laws.Nodes.{nodes_none}
-use Rattle.store.specs.Laws.Placed.{placed_length}
+use Rattle.store.proofs.Laws.Points.{Zeros, point_none}
+use Rattle.store.proofs.Laws.Copied.{copies_none, errors-none}
+use Rattle.store.proofs.Laws.Nodes.{nodes_none}
+use Rattle.store.proofs.Laws.Placed.{placed_length}
 use Rattle.target.specs.Entries.{unsettled, module_opens}
 use Rattle.collect.specs.Declare.{counted}
 use Rattle.note.specs.Noted.{Noted}

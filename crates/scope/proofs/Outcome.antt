@@ -13,11 +13,11 @@ use Rattle.lexical.specs.Third.{resolved}
 use Rattle.lexical.specs.Records as rec
 use Rattle.lexical.proofs.Laws.Numbers.{made_start}
 use Rattle.nodefile.specs.Layout.{node_count, nodes_of}
-use Rattle.nodefile.specs.Reads.{reads_one}
+use Rattle.nodefile.proofs.Laws.Reads.{reads_one}
 use Rattle.nodefile.specs.FileOf.{file_of}
 use Rattle.store.specs.Sections.{mem}
 use Rattle.store.specs.Rel.{Over, too_many_slots, too_many_bindings, too_many_errors}
-use Rattle.store.specs.Laws.Points.{Zeros, zeros}
+use Rattle.store.proofs.Laws.Points.{Zeros, zeros}
 use Rattle.answer.specs.declared.Answer.{Answer}
 use Rattle.scope.specs.declared.Walked.{Walked}
 use Rattle.answer.specs.Buffers.{Buffers, buffers}

@@ -23,7 +23,7 @@ use Rattle.nodefile.specs.Layout.{nodes_of}
 use Rattle.nodefile.specs.Node.{size_of}
 use Rattle.nodefile.specs.Reads.{Reads}
 use Rattle.nodefile.specs.FileOf.{file_of}
-use Rattle.nodefile.specs.FileLaws.{globals_count}
+use Rattle.nodefile.proofs.Laws.FileLaws.{globals_count}
 use Rattle.store.specs.declared.ids.State.{State}
 use Rattle.store.specs.Sections.{Mem, mem, Long}
 use Rattle.store.specs.Rel.{World, R, Over, too_many_slots, too_many_bindings, too_many_errors}
@@ -34,7 +34,7 @@ use Rattle.collect.specs.Cycle as col
 use Rattle.collect.specs.Declare.{module_is, plain_marks, world_of, AllNodes, PreAll, AllDone}
 use Rattle.lookup.specs.Lookup.{Settled}
 use Rattle.idents.specs.Cycle as ids
-use Rattle.store.specs.Laws.Points.{Zeros}
+use Rattle.store.proofs.Laws.Points.{Zeros}
 use Rattle.note.specs.Noted.{Noted}
 use Rattle.scope.specs.Ready.{Ready}
 use Rattle.scope.specs.Walks.{Ended, Begun}

@@ -28,7 +28,7 @@ use Rattle.store.specs.Sections.{Mem, word_at}
 use Rattle.store.specs.Words.{bind_word, slot_word, copy_word, error_word, pair_word}
 use Rattle.store.specs.Image.{Image}
 use Rattle.store.specs.Rel.{caps}
-use Rattle.store.specs.Laws.Points.{Zeros, word_at_lem}
+use Rattle.store.proofs.Laws.Points.{Zeros, word_at_lem}
 use Rattle.target.specs.Alike.{map_like}
 use Rattle.collect.specs.Declare.{counted}
 use Rattle.answer.specs.Buffers.{Front}

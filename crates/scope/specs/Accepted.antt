@@ -5,7 +5,7 @@ use Rattle.lexical.specs.Third.{resolved}
 use Rattle.nodefile.specs.Layout.{node_count, nodes_of}
 use Rattle.nodefile.specs.Reads.{Reads}
 use Rattle.nodefile.specs.FileOf.{file_of}
-use Rattle.store.specs.Laws.Points.{Zeros}
+use Rattle.store.proofs.Laws.Points.{Zeros}
 use Rattle.answer.specs.declared.Answer.{Answer}
 use Rattle.answer.specs.Buffers.{Buffers}
 use Rattle.scope.specs.Ready.{Ready}

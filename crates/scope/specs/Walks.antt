@@ -11,7 +11,7 @@ use Rattle.store.specs.declared.ids.State.{State}
 use Rattle.store.specs.Sections.{Mem, mem, Long}
 use Rattle.store.specs.Image.{Image}
 use Rattle.store.specs.Rel.{Over, caps}
-use Rattle.store.specs.Laws.Points.{Zeros}
+use Rattle.store.proofs.Laws.Points.{Zeros}
 use Rattle.collect.specs.Declare.{counted}
 use Rattle.note.specs.Noted.{Noted}
 use Rattle.scope.specs.declared.Walked.{Walked}

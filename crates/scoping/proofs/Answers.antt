@@ -8,8 +8,9 @@ use lib.ListN.{length, replicate, length-replicate}
 use Rattle.base.specs.Says.{Says}
 use Rattle.lexical.specs.Tree.{Forest}
 use Rattle.nodefile.specs.Layout.{name_count, nodes_of, nodes_length}
-use Rattle.nodefile.specs.Reads.{Reads, reads_one}
-use Rattle.nodefile.specs.Trees.{tree}
+use Rattle.nodefile.specs.Reads.{Reads}
+use Rattle.nodefile.proofs.Laws.Reads.{reads_one}
+use Rattle.nodefile.proofs.Laws.Trees.{tree}
 use Rattle.header.specs.Header.{HeaderOk}
 use Rattle.shape.specs.Nodes.{Sound, sound}
 use Rattle.scoping.specs.Depth.{TooDeep, too_deep}

@@ -14,7 +14,7 @@ use Rattle.scoping.specs.Params.{ParamNames, BadParams, same_name}
 use Rattle.scoping.specs.Inside.Found.{Scope, Source, Found}
 use Rattle.scoping.specs.Inside.Naming.{Fresh}
 use Rattle.marks.specs.Marks.{zeros}
-use Rattle.nodefile.specs.Fitting.{below-is}
+use Rattle.nodefile.proofs.Laws.Fitting.{below-is}
 use Rattle.scoping.proofs.Naming.{params-some}
 
 -- the parameters of the functions with a number below v

@@ -9,7 +9,7 @@ use Rattle.nodefile.specs.Node.{size_of, below}
 use Rattle.nodefile.specs.Reads.{Reads}
 use Rattle.nodefile.specs.Height.{height}
 use Rattle.scoping.specs.Inside.Held.{Held}
-use Rattle.nodefile.specs.Fitting.{rest_is, below-is}
+use Rattle.nodefile.proofs.Laws.Fitting.{rest_is, below-is}
 
 -- no deeper than there are nodes
 pub height_nodes : (f : Forest) (t : List ℕ) (at : ℕ) → Reads t at f → 8 * height f ≤ length t

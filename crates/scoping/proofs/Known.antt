@@ -8,12 +8,13 @@ use native.Mathlib.Omega.{arith}
 use borrow.Author.Tests.{leb-true, eqb-true, ltb-true}
 use lib.Dec.{leb, eqb, ltb}
 use lib.ListN.{length, drop}
-use Rattle.bits.specs.FieldLaws.{field-take}
+use Rattle.bits.proofs.FieldLaws.{field-take}
 use Rattle.lexical.specs.Places.{In}
 use Rattle.lexical.specs.Table.{row, within, head_in, is_empty, matches, allowed}
 use Rattle.nodefile.specs.Node.{kind_of, size_of, value_of, below}
 use Rattle.nodefile.specs.Kids.{kids_cons}
-use Rattle.nodefile.specs.Trees.{stretch, stretch-length, stretch_size, stretch-after, below_at}
+use Rattle.nodefile.specs.Trees.{stretch}
+use Rattle.nodefile.proofs.Laws.Trees.{stretch-length, stretch_size, stretch-after, below_at}
 use Rattle.base.specs.Says.{unless, holds}
 use Rattle.shape.specs.Nodes.{at, has_name, BadNodes, no_such_name, Sound, sound}
 use Rattle.shape.specs.Children.{BadChildren, other_children}

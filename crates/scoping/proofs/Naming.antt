@@ -14,7 +14,7 @@ use Rattle.nodefile.specs.Kids.{Kids, no_kids, kid, Fits}
 use Rattle.scoping.specs.Params.{named, param_name, ParamNames, no_params_lem, param, other}
 use Rattle.scoping.specs.Inside.Naming.{Known, Fresh}
 use Rattle.marks.specs.Marks.{Marked, marked_none, marked_more, marked_again}
-use Rattle.nodefile.specs.Fitting.{rest_is, fits_on}
+use Rattle.nodefile.proofs.Laws.Fitting.{rest_is, fits_on}
 
 -- ---- the names in a part
 

@@ -13,7 +13,7 @@ use Rattle.nodefile.specs.Kids.{Kids, no_kids, kid, Fits, kids_cons, kids_none}
 use Rattle.shape.specs.Inside.Code.{code_of, rest_of, Coded}
 use Rattle.shape.proofs.Rows.{matches_rest, matches-none, allowed-row, allowed_other, allowed-bare, not-bare}
 use Rattle.shape.proofs.Codes.{row_small, small_rest, need_is}
-use Rattle.nodefile.specs.Fitting.{rest_is}
+use Rattle.nodefile.proofs.Laws.Fitting.{rest_is}
 
 -- a part that falls into nodes and has less than 8 bytes has none
 kids_short : {t ks : List ℕ} → Kids t ks → length t < 8 → length t ≡ 0

@@ -9,9 +9,11 @@ use lib.ListN.{length, drop, length-drop}
 use Rattle.base.specs.Says.{unless}
 use Rattle.nodefile.specs.Node.{size_of, below}
 use Rattle.nodefile.specs.Kids.{no_kids, Fits, fits_dec}
-use Rattle.nodefile.specs.Fitting.{fits_cons}
-use Rattle.nodefile.specs.Trees.{stretch, stretch_size, stretch-after, stretch-length, below_at}
-use Rattle.nodefile.specs.Nested.{end_of, Sized, nested}
+use Rattle.nodefile.proofs.Laws.Fitting.{fits_cons}
+use Rattle.nodefile.specs.Trees.{stretch}
+use Rattle.nodefile.proofs.Laws.Trees.{stretch_size, stretch-after, stretch-length, below_at}
+use Rattle.nodefile.specs.Nested.{end_of, Sized}
+use Rattle.nodefile.proofs.Laws.Nested.{nested}
 use Rattle.shape.specs.Nodes.{at, BadNodes, high_kind, zero_bits_set, no_size, past_parent, root_size, no_such_name, stray_value}
 use Rattle.shape.specs.Inside.Node.{no_name, no_value, BadNode, kind, zero_bits, value, size, past_list, misfit}
 

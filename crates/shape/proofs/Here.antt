@@ -8,7 +8,7 @@ use Rattle.nodefile.specs.Node.{kind_of, size_of, below}
 use Rattle.nodefile.specs.Kids.{Kids, Fits}
 use Rattle.shape.specs.Nodes.{Sound}
 use Rattle.shape.proofs.Pass.{Passed, passed_inside}
-use Rattle.nodefile.specs.Fitting.{below-is}
+use Rattle.nodefile.proofs.Laws.Fitting.{below-is}
 
 -- what is known of the node that t starts with
 pub record Here (t : List ℕ) : Type 0 where

@@ -3,7 +3,8 @@ use Rattle.std.specs.Prelude.{ℕ, zero, suc, ◌*◌, ◌≤◌, ◌<◌, ◌�
 use Rattle.std.proofs.Common.{arith}
 use Rattle.nodefile.specs.Node.{kind_of, node_zero, size_of, value_of, below}
 use Rattle.nodefile.specs.Kids.{Fits}
-use Rattle.nodefile.specs.Nested.{end_of, Nested, unnested}
+use Rattle.nodefile.specs.Nested.{end_of, Nested}
+use Rattle.nodefile.proofs.Laws.Nested.{unnested}
 use Rattle.base.specs.Says.{unless, unless_not}
 
 -- the part of a node list that starts with node i

@@ -4,7 +4,7 @@ use Rattle.std.proofs.Common.{sym, ap, ◌∙◌, subst, inl, inr, ⊎_elim, ari
 use Rattle.std.proofs.Math.Decide.{ℕ_discrete}
 use Rattle.bits.specs.Field.{bit_of, field_of}
 use Rattle.bits.specs.Put.{Written}
-use Rattle.bits.specs.PutLaws.{written_fits, written_apart}
+use Rattle.bits.proofs.PutLaws.{written_fits, written_apart}
 
 -- s, with the first n elements of xs from bit `at` on, w bits each
 pub record Laid (w : ℕ) (xs : List ℕ) (n at : ℕ) (s s' : List ℕ) : Type 0 where

@@ -13,9 +13,9 @@ use Rattle.store.specs.Sections.{mem}
 use Rattle.store.specs.Meanings.{SavedAll}
 use Rattle.store.specs.Rel.{Rel}
 use Rattle.store.specs.Scoping.{Opening, Closing}
-use Rattle.store.specs.Laws.Points.{absent_past}
-use Rattle.store.specs.Laws.Made.{made_name, made_few}
-use Rattle.store.specs.Laws.Reach.{rel_push, rel_pop}
+use Rattle.store.proofs.Laws.Points.{absent_past}
+use Rattle.store.proofs.Laws.Made.{made_name, made_few}
+use Rattle.store.proofs.Laws.Reach.{rel_push, rel_pop}
 
 -- ---- lists
 

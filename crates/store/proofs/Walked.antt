@@ -18,8 +18,8 @@ use Rattle.store.specs.Sections.{or_zero}
 use Rattle.store.specs.Words.{slot_word}
 use Rattle.store.specs.Image.{last_of, before, SlotsIn}
 use Rattle.store.specs.Hands.{Slotted}
-use Rattle.store.specs.Laws.Points.{absent_past, word_at_lem}
-use Rattle.store.specs.Laws.Chain.{Last, last_is}
+use Rattle.store.proofs.Laws.Points.{absent_past, word_at_lem}
+use Rattle.store.proofs.Laws.Chain.{Last, last_is}
 
 -- what is found so far: 0 for nothing, or one more than the slot
 abbrev pub best_of : ℕ → Option ℕ

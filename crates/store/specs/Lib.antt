@@ -6,4 +6,3 @@ pub mod Image
 pub mod Meanings
 pub mod Rel
 pub mod Blocks
-pub mod Laws

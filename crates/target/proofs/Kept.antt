@@ -23,10 +23,10 @@ use Rattle.store.specs.Image.{MadeIn, SlotsIn, CopiesIn, ErrorsIn, NodesIn}
 use Rattle.store.specs.Meanings.{EnvIn, NamesIn, RangesIn}
 use Rattle.store.specs.Rel.{World, caps}
 use Rattle.store.specs.Blocks.{BlockEnv, titles, vars_of, bindings_of, block_st, block_world, KnownAs, InBlock}
-use Rattle.store.specs.Laws.Points.{Off}
-use Rattle.store.specs.Laws.Nodes.{nodes_named, nodes_name}
-use Rattle.store.specs.Laws.Around.{env_skip, env_more}
-use Rattle.store.specs.Laws.Names.{names_skip, ranges_skip, ranges_more}
+use Rattle.store.proofs.Laws.Points.{Off}
+use Rattle.store.proofs.Laws.Nodes.{nodes_named, nodes_name}
+use Rattle.store.proofs.Laws.Around.{env_skip, env_more}
+use Rattle.store.proofs.Laws.Names.{names_skip, ranges_skip, ranges_more}
 use Rattle.target.specs.Blocks.{block_longer, rows_before, named_snoc, name_word}
 
 -- ---- what names mean outside of the block

@@ -18,10 +18,10 @@ use Rattle.store.specs.Words.{binding_word, answer_word, pair_word, more_word}
 use Rattle.store.specs.Image.{MadeIn, SlotsIn}
 use Rattle.store.specs.Rel.{World, caps}
 use Rattle.store.specs.Blocks.{BlockEnv, titles, placed, vars_of, block_st, KnownAs, InBlock, RB}
-use Rattle.store.specs.Laws.Made.{made_skip, made_push}
-use Rattle.store.specs.Laws.Slots.{slots_skip_w, slots_skip_t, slots_push, fresh_read, fresh_few}
-use Rattle.store.specs.Laws.Copied.{copies_skip, errors_skip}
-use Rattle.store.specs.Laws.Nodes.{nodes_skip}
+use Rattle.store.proofs.Laws.Made.{made_skip, made_push}
+use Rattle.store.proofs.Laws.Slots.{slots_skip_w, slots_skip_t, slots_push, fresh_read, fresh_few}
+use Rattle.store.proofs.Laws.Copied.{copies_skip, errors_skip}
+use Rattle.store.proofs.Laws.Nodes.{nodes_skip}
 use Rattle.target.specs.Target.{a_target, Fresh, FreshDone}
 use Rattle.target.specs.Blocks.{fresh-count, slots_count, made_new, slots_new}
 use Rattle.target.proofs.Kept.{Outside, outside_skip, Table, table_skip, table_set, Listed, parts, whole, nodes_target}

@@ -17,12 +17,12 @@ use Rattle.store.specs.Words.{binding_word, answer_word}
 use Rattle.store.specs.Image.{Sound, MadeIn}
 use Rattle.store.specs.Rel.{World, caps}
 use Rattle.store.specs.Blocks.{BlockEnv, titles, placed, vars_of, block_st, InBlock, RB}
-use Rattle.store.specs.Laws.Points.{past}
-use Rattle.store.specs.Laws.Made.{made_skip, made_push}
-use Rattle.store.specs.Laws.Slots.{slots_skip_w, slots_skip_t}
-use Rattle.store.specs.Laws.Copied.{copies_skip, errors_skip}
-use Rattle.store.specs.Laws.Around.{env_skip}
-use Rattle.store.specs.Laws.Names.{names_push, ranges_skip}
+use Rattle.store.proofs.Laws.Points.{past}
+use Rattle.store.proofs.Laws.Made.{made_skip, made_push}
+use Rattle.store.proofs.Laws.Slots.{slots_skip_w, slots_skip_t}
+use Rattle.store.proofs.Laws.Copied.{copies_skip, errors_skip}
+use Rattle.store.proofs.Laws.Around.{env_skip}
+use Rattle.store.proofs.Laws.Names.{names_push, ranges_skip}
 use Rattle.target.specs.Target.{a_target, Fresh, FreshDone}
 use Rattle.target.specs.Noted.{merge-length}
 use Rattle.target.specs.Blocks.{made_new, slots_module}

@@ -16,9 +16,9 @@ use Rattle.store.specs.Words.{answer_word, again_word}
 use Rattle.store.specs.Image.{MadeIn}
 use Rattle.store.specs.Rel.{World, caps}
 use Rattle.store.specs.Blocks.{BlockEnv, titles, placed, vars_of, block_st, InBlock, RB}
-use Rattle.store.specs.Laws.Made.{bound_again, made_few, made_slot, made_again}
-use Rattle.store.specs.Laws.Slots.{slots_skip_w}
-use Rattle.store.specs.Laws.Copied.{copies_skip, errors_skip}
+use Rattle.store.proofs.Laws.Made.{bound_again, made_few, made_slot, made_again}
+use Rattle.store.proofs.Laws.Slots.{slots_skip_w}
+use Rattle.store.proofs.Laws.Copied.{copies_skip, errors_skip}
 use Rattle.target.specs.Target.{a_target, Again, AgainDone}
 use Rattle.target.specs.Noted.{place_var, titles_known}
 use Rattle.target.specs.Blocks.{made_count, vars_known, made_known, made_replaced, slots_known}

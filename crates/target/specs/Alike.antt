@@ -3,7 +3,7 @@ use Rattle.std.specs.Prelude.{ℕ, zero, suc, ◌+◌, ◌<◌, ◌≡◌, refl,
 use Rattle.std.proofs.Common.{ap, arith, zero-add}
 use Rattle.std.proofs.Math.Option.{some}
 use Rattle.std.proofs.Math.ListN.{get_elem?}
-use Rattle.store.specs.Laws.Points.{Replaced}
+use Rattle.store.proofs.Laws.Points.{Replaced}
 
 module _ {A : Type 0} where
   pub replaced_set : (xs : List A) (k : ℕ) (a : A) → k < length xs → Replaced k a xs (set xs k a)

@@ -23,11 +23,11 @@ use Rattle.lexical.proofs.Theory.Slots.{fresh_at}
 use Rattle.store.specs.Words.{answer_word, row_word}
 use Rattle.store.specs.Rel.{Over, too_many_slots, too_many_bindings, too_many_errors}
 use Rattle.store.specs.Blocks.{BlockEnv, titles, placed, placed_from, vars_of, bindings_of, slots_of, block_st}
-use Rattle.store.specs.Laws.Points.{Replaced}
-use Rattle.store.specs.Laws.Made.{bound_again}
+use Rattle.store.proofs.Laws.Points.{Replaced}
+use Rattle.store.proofs.Laws.Made.{bound_again}
 use Rattle.target.specs.Alike.{replaced_set, replaced_behind, map-set, map_like}
 use Rattle.target.specs.Noted.{note-new, note_known, merge-place, merge_own, merge-length}
-use Rattle.store.specs.Laws.Placed.{placed_length, placed_snoc}
+use Rattle.store.proofs.Laws.Placed.{placed_length, placed_snoc}
 use Rattle.target.specs.Placed.{placed_at, placed_set, place_row, row_placed}
 
 -- ---- how many

@@ -7,7 +7,7 @@ use Rattle.std.proofs.Math.ListN.{get_elem?}
 use Rattle.lexical.specs.Lists.{place, map_o, or_else, or_else_none, none-some, eqb-true, eqb_self, eqb-not, Tested, was, wasnt, tested, Opened, absent, present, opened}
 use Rattle.lexical.specs.Binders.{Target, Var, new_var, again, note, merge}
 use Rattle.store.specs.Blocks.{titles}
-use Rattle.store.specs.Laws.Names.{place_snoc}
+use Rattle.store.proofs.Laws.Names.{place_snoc}
 use Rattle.target.specs.Alike.{map-set}
 
 -- ---- the place of a name

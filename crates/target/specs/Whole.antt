@@ -17,7 +17,7 @@ use Rattle.store.specs.Sections.{Mem}
 use Rattle.store.specs.Meanings.{Range}
 use Rattle.store.specs.Rel.{World, Rel, R, caps}
 use Rattle.store.specs.Blocks.{BlockEnv, local_block, placed, placed_from, vars_of, bindings_of, slots_of, block_st, block_world, KnownAs, BlockFacts, InBlock, RB}
-use Rattle.store.specs.Laws.Placed.{placed_length}
+use Rattle.store.proofs.Laws.Placed.{placed_length}
 use Rattle.target.specs.Placed.{placed_at}
 use Rattle.target.specs.Blocks.{made_count}
 

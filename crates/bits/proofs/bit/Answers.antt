@@ -1,6 +1,4 @@
 -- `bit` shifts the bit to the end of its byte, and leaves out the bits before it.
-use mathlib.Core.Path.{refl}
-use borrow.Author.Rules.{rules}
 use Rattle.bits.specs.Field.{bit_of}
 use Rattle.bits.proofs.bit.Goals as goal
 

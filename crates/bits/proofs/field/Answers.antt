@@ -4,11 +4,10 @@ use mathlib.Core.Path.{◌≡◌, sym, ap, ◌∙◌}
 use mathlib.Core.List.{List}
 use native.Mathlib.Omega.{arith}
 use native.Mathlib.Nat.{add-zero, mod-eq_of_lt}
-use borrow.Author.Rules.{rules}
 use lib.ListN.{length, drop}
 use Rattle.base.specs.Parts.{part-from}
 use Rattle.bits.specs.Field.{field_of}
-use Rattle.bits.specs.FieldLaws.{field_is, field_wide, field_lt_32, field-split, field_past, field-drop}
+use Rattle.bits.proofs.FieldLaws.{field_is, field_lt_32, field-split, field_past, field-drop}
 use Rattle.bits.proofs.field.Goals as goal
 
 -- a field counted from the byte in which it starts

@@ -3,7 +3,6 @@ use Prim.Native.Nat.{ℕ, ◌%◌, ◌^◌}
 use mathlib.Core.Path.{ap, ◌∙◌}
 use native.Mathlib.Omega.{arith}
 use native.Mathlib.Nat.{one-mul, mod-eq_of_lt, lt_of_le_of_lt}
-use borrow.Author.Rules.{rules}
 use lib.Pow.{pow_mono}
 use lib.Dec.{lit<}
 use Rattle.bits.proofs.power.Goals as goal

@@ -1,11 +1,7 @@
 -- `put_field` goes from the last bits of the field to the first, one byte at a time.
-use Prim.Native.Nat.{ℕ, ◌+◌, ◌*◌, ◌-◌, ◌/◌, ◌%◌, ◌^◌, ◌≤◌}
-use mathlib.Core.Path.{◌≡◌, refl, sym, ap, ◌∙◌}
-use native.Mathlib.Omega.{arith}
-use native.Mathlib.Nat.{add-zero, sub-zero, div-one}
-use lib.Pow.{pow_pos, shr-shr}
+use Prim.Native.Nat.{◌+◌, ◌-◌, ◌/◌, ◌^◌, ◌≤◌}
+use mathlib.Core.Path.{◌≡◌}
 use Rattle.bits.specs.Put.{Written}
-use Rattle.bits.specs.PutLaws.{written_none, written_turn}
 use Rattle.bits.proofs.put_field.Given as goal
 
 abbrev pub invariant-loop-w : goal.invariant-loop-w

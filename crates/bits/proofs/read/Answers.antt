@@ -1,10 +1,10 @@
 -- `read` has read a field of k bits when it has gone through k of them.
-use Prim.Native.Nat.{◌+◌, ◌-◌, ◌≤◌, ◌<◌}
-use mathlib.Core.Path.{◌≡◌, refl}
+use Prim.Native.Nat.{◌+◌, ◌<◌}
+use mathlib.Core.Path.{refl}
 use native.Mathlib.Omega.{arith}
 use native.Mathlib.Numerals.{add-one}
 use Rattle.bits.specs.Field.{field_of}
-use Rattle.bits.specs.FieldLaws.{bit_lt, field_lt_32}
+use Rattle.bits.proofs.FieldLaws.{bit_lt, field_lt_32}
 use Rattle.bits.proofs.read.Goals as goal
 
 -- what has been read so far fits 32 bits

@@ -1,10 +1,7 @@
 -- `read` has read a field of k bits when it has gone through k of them.
-use Prim.Native.Nat.{◌+◌, ◌-◌, ◌≤◌, ◌<◌}
-use mathlib.Core.Path.{◌≡◌, refl}
-use native.Mathlib.Omega.{arith}
-use native.Mathlib.Numerals.{add-one}
+use Prim.Native.Nat.{◌-◌, ◌≤◌}
+use mathlib.Core.Path.{◌≡◌}
 use Rattle.bits.specs.Field.{field_of}
-use Rattle.bits.specs.FieldLaws.{bit_lt, field_lt_32}
 use Rattle.bits.proofs.read.Given as goal
 
 abbrev pub invariant-loop-k : goal.invariant-loop-k

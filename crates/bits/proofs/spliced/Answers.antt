@@ -1,8 +1,5 @@
 -- `spliced` replaces bits of a byte, and what comes out is a byte.
-use Prim.Native.Nat.{◌<◌}
 use native.Mathlib.Omega.{arith}
-use borrow.Author.Rules.{rules}
-use lib.Pow.{pow_pos}
 use Rattle.bits.specs.Digits.{splice, splice_byte}
 use Rattle.bits.proofs.spliced.Goals as goal
 

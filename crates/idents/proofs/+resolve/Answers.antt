@@ -1,7 +1,7 @@
 -- The functions of walk three that call one another meet their contracts: each cites a step (`Steps`, `Leaves`, `Cuts`, `Functions`, `Comprs`) at what its callee ensures.
 use Rattle.std.proofs.Common.{ℕ, ◌+◌, ◌-◌, ◌*◌, drop, refl, sym, ap, ◌∙◌, arith}
 use Rattle.store.specs.Sections.{mem}
-use Rattle.nodefile.specs.Parts.{kind_take, size_from}
+use Rattle.nodefile.proofs.Laws.Parts.{kind_take, size_from}
 use Rattle.idents.proofs.Steps.{kind_is, k_end, k_node, k_length, k_pre, k_more, k_into, x_long, x_kind, x_kids_length, x_kids_pre, x_others, x_type, x_ident_pre, x_ident}
 use Rattle.idents.proofs.Leaves.{x_leaf}
 use Rattle.idents.proofs.Cuts.{for_clause, clause_some, f_inside, f_front-length, f_back-length, c_rest_pre, c_first_pre, c_done}

@@ -1,6 +1,6 @@
 -- `idents::last` meets its contract: the nodes passed and those left are the part's (`Trail`).
 use Rattle.std.proofs.Common.{ℕ, ◌*◌, ap, ◌∙◌, arith}
-use Rattle.nodefile.specs.Parts.{size_from}
+use Rattle.nodefile.proofs.Laws.Parts.{size_from}
 use Rattle.idents.proofs.Trail.{trail_start, trail_inside, trail_more, trail_end}
 use Rattle.idents.proofs.last.Goals as goal
 

@@ -2,7 +2,7 @@
 use Rattle.std.specs.Prelude.{ℕ, ◌≤◌, ◌<◌, ◌≡◌, List, length, take}
 use Rattle.std.proofs.Common.{sym, ◌∙◌, arith, length-take}
 use Rattle.base.specs.First.{here, later}
-use Rattle.bits.specs.FieldLaws.{field-take}
+use Rattle.bits.proofs.FieldLaws.{field-take}
 use Rattle.nodefile.specs.Layout.{version, head_zero, node_count, name_count, entry_count, global_count, pool_bytes}
 use Rattle.base.specs.Says.{unless}
 use Rattle.header.specs.Header.{BadHeader, short, other_version, zero_bits_set, BadCounts, no_nodes, too_many_nodes, too_many_names, too_many_entries, too_many_globals, large_pool, BadLength, other_length}

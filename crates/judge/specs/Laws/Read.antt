@@ -9,15 +9,17 @@ use Rattle.std.proofs.Math.ListN.{get_elem?}
 use Rattle.std.proofs.lemmas.List.{length-replicate}
 use Rattle.base.specs.UpTo.{up_to, at_behind}
 use Rattle.base.specs.Table.{at as tested_at}
-use Rattle.bits.specs.FieldLaws.{field-take}
+use Rattle.bits.proofs.FieldLaws.{field-take}
 use Rattle.lexical.specs.Places.{at_append, at-below}
 use Rattle.lexical.specs.Tree.{Forest, nil, node, way, is_fn, scopes_in}
 use Rattle.lexical.specs.Table.{own_name, param_names}
 use Rattle.nodefile.specs.Node.{kind_of, size_of, value_of, below, after}
-use Rattle.nodefile.specs.Reads.{Reads, count_of, reads_length, below_length}
-use Rattle.nodefile.specs.Order.{Spot, spots_in, spots_count, spot_at}
+use Rattle.nodefile.specs.Reads.{Reads, count_of}
+use Rattle.nodefile.proofs.Laws.Reads.{reads_length, below_length}
+use Rattle.nodefile.specs.Order.{Spot, spots_in}
+use Rattle.nodefile.proofs.Laws.Order.{spots_count, spot_at}
 use Rattle.nodefile.specs.Chosen.{chosen}
-use Rattle.nodefile.specs.Listed.{listed_spots}
+use Rattle.nodefile.proofs.Laws.Listed.{listed_spots}
 use Rattle.shape.specs.Nodes.{at, has_scope, Sound}
 use Rattle.scoping.specs.Scopes.{is_scope, number, numbers, scope_numbers}
 use Rattle.scoping.specs.Params.{param_name, ParamNames, no_params_lem, param, other}

@@ -1,13 +1,12 @@
 -- The field of a record: past the end of the list it is 0, like the field that stands there.
-use Prim.Native.Nat.{◌*◌, ◌≤◌, ◌<◌}
+use Prim.Native.Nat.{◌*◌, ◌<◌}
 use mathlib.Core.Path.{sym, ◌∙◌}
 use native.Mathlib.Omega.{arith}
-use native.Mathlib.Nat.{le-div_iff_mul-le, div-lt_iff_lt-mul, mul_assoc, mul_comm}
+use native.Mathlib.Nat.{div-lt_iff_lt-mul, mul_assoc, mul_comm}
 use lib.Pow.{pow_pos}
 use lib.ListN.{length}
 use Rattle.base.specs.Parts.{part-from}
-use Rattle.bits.specs.FieldLaws.{field_record, field_past, field_read}
-use borrow.Author.Rules.{rules}
+use Rattle.bits.proofs.FieldLaws.{field_record, field_past, field_read}
 use Rattle.nodefile.proofs.record_field.Goals as goal
 
 pub returns-then-k-list : goal.returns-then-k-list

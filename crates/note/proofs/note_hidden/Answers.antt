@@ -5,7 +5,7 @@ use mathlib.Core.List.{List}
 use native.Mathlib.Omega.{arith}
 use native.Mathlib.Nat.{min-le_left}
 use lib.ListN.{length, length-take}
-use Rattle.bits.specs.FieldLaws.{field_past}
+use Rattle.bits.proofs.FieldLaws.{field_past}
 use Rattle.lexical.specs.Records.{bit}
 use Rattle.nodefile.specs.Layout.{name_count, names_of}
 use Rattle.nodefile.specs.Lists.{name_len, hidden}

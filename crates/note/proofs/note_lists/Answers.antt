@@ -5,7 +5,7 @@ use native.Mathlib.Omega.{arith}
 use lib.Dec.{eqb}
 use lib.ListN.{length, get_or, length-set}
 use Rattle.lexical.specs.Records.{bit}
-use Rattle.store.specs.Laws.Points.{Off}
+use Rattle.store.proofs.Laws.Points.{Off}
 use Rattle.note.proofs.Lists.{made_blank, clear_globals, all_noted}
 use Rattle.note.proofs.note_lists.Goals as goal
 

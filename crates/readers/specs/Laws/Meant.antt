@@ -27,8 +27,8 @@ use Rattle.scope.specs.Answer.{Resolves}
 use Rattle.scope.specs.Laws.Readies.{ready_distinct}
 use Rattle.scope.specs.Laws.Zero.{zero_ready, zero_slots}
 use Rattle.promise.specs.Shown.{node_fields, source_of, local_of, BindingShown, Shown, Told}
-use Rattle.promise.specs.Theorems.{T1}
-use Rattle.promise.specs.Laws.Records.{binding_read}
+use Rattle.promise.proofs.Theorems.{T1}
+use Rattle.promise.proofs.Laws.Records.{binding_read}
 use Rattle.readers.specs.Keys.{of_binding, of_global}
 use Rattle.readers.specs.Laws.Classes.{other}
 use Rattle.readers.specs.Shown.{class_of, slot_of, binding_of, Ident, ToBinding, ToGlobal, Means}

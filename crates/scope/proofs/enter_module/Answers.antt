@@ -1,6 +1,6 @@
 -- `scope::enter_module` meets its contract: each walk is handed what the one before it gives.
 use Rattle.std.proofs.Common.{◌∙◌}
-use Rattle.store.specs.Laws.Lengths.{long_kept}
+use Rattle.store.proofs.Laws.Lengths.{long_kept}
 use Rattle.scope.proofs.Passes.{one_pre, two_pre, three_pre, ended}
 use Rattle.scope.proofs.enter_module.Goals as goal
 

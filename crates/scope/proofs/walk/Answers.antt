@@ -1,7 +1,7 @@
 -- `scope::walk` meets its contract: the lists are noted, and then the nodes are walked over.
 use Rattle.std.proofs.Common.{ℕ, ◌∙◌, refl}
 use lib.ListN.{length-replicate}
-use Rattle.store.specs.Laws.Points.{zeros}
+use Rattle.store.proofs.Laws.Points.{zeros}
 use Rattle.scope.proofs.Passes.{begun, long_made}
 use Rattle.scope.proofs.walk.Goals as goal
 

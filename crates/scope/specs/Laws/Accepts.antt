@@ -14,8 +14,9 @@ use Rattle.nodefile.specs.Layout.{name_count, entry_count, global_count, nodes_o
 use Rattle.nodefile.specs.Lists.{entry_name, global_name}
 use Rattle.nodefile.specs.Node.{size_of}
 use Rattle.nodefile.specs.FileOf.{entry_names, global_names}
-use Rattle.nodefile.specs.Reads.{Reads, reads_one}
-use Rattle.nodefile.specs.FileLaws.{tree_below}
+use Rattle.nodefile.specs.Reads.{Reads}
+use Rattle.nodefile.proofs.Laws.Reads.{reads_one}
+use Rattle.nodefile.proofs.Laws.FileLaws.{tree_below}
 use Rattle.nodefile.specs.Valid as valid
 use Rattle.nodefile.specs.Valid.{Valid, Some, NameFirst}
 use Rattle.note.specs.Noted.{ListsOk}

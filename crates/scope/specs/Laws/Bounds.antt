@@ -8,7 +8,7 @@ use mathlib.Core.List.{List, [], ◌∷◌, ◌++◌}
 use Rattle.std.proofs.Math.Option.{some}
 use Rattle.std.proofs.Math.Decide.{dec_lt}
 use Rattle.std.proofs.Math.ListN.{get_elem?}
-use Rattle.bits.specs.FieldLaws.{field_lt}
+use Rattle.bits.proofs.FieldLaws.{field_lt}
 use Rattle.base.specs.UpTo.{at_right}
 use Rattle.lexical.specs.Lists.{Tested, was, wasnt, tested}
 use Rattle.lexical.specs.Places.{In, at-below, at_left, map_o_some}
@@ -22,7 +22,7 @@ use Rattle.lexical.proofs.Laws.Numbers.{made_start, local_capacity}
 use Rattle.lexical.proofs.Laws.Below as low
 use Rattle.nodefile.specs.Layout.{entry_count, entries_of}
 use Rattle.nodefile.specs.FileOf.{file_of, entry_of}
-use Rattle.nodefile.specs.FileLaws.{entries_count, entries_at}
+use Rattle.nodefile.proofs.Laws.FileLaws.{entries_count, entries_at}
 use Rattle.nodefile.specs.Valid.{Valid}
 use Rattle.store.specs.Blocks.{module_block, nothing, placed, vars_of, bindings_of, block_st}
 use Rattle.target.specs.Placed.{placed_at}

@@ -4,7 +4,7 @@ use Rattle.std.specs.Prelude.{ℕ, zero, suc, ◌-◌, ◌<◌, ◌≤◌, ◌�
 use Rattle.std.proofs.Common.{sym, ap, ◌∙◌, arith, length-append, ext_get_or}
 use Rattle.std.proofs.lemmas.List.{length-replicate}
 use Rattle.store.specs.Sections.{word_at, or_zero}
-use Rattle.store.specs.Laws.Points.{zeros}
+use Rattle.store.proofs.Laws.Points.{zeros}
 use Rattle.answer.specs.Buffers.{Front}
 
 pub get_past : (l : List ℕ) (i : ℕ) → length l ≤ i → get_or l i 0 ≡ 0

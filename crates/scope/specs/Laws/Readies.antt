@@ -12,8 +12,8 @@ use Rattle.lexical.proofs.Laws.Capacity.{made_capacity, names_idents_nodes, erro
 use Rattle.lexical.proofs.Theory.Tabled.{tabled_headed}
 use Rattle.nodefile.specs.Layout.{node_count, nodes_of, nodes_length}
 use Rattle.nodefile.specs.FileOf.{file_of}
-use Rattle.nodefile.specs.FileLaws.{entries_count, tree_count}
-use Rattle.nodefile.specs.Listed.{nodes_count, nodes_distinct}
+use Rattle.nodefile.proofs.Laws.FileLaws.{entries_count, tree_count}
+use Rattle.nodefile.proofs.Laws.Listed.{nodes_count, nodes_distinct}
 use Rattle.scope.specs.Ready.{Ready}
 
 module _ {bs : List ℕ} {root : Forest} (q : Ready bs root) where

@@ -2,7 +2,7 @@
 use Rattle.std.specs.Prelude.{ℕ, ◌≡◌, refl, List, [], ◌∷◌, get_or}
 use Rattle.std.proofs.Common.{ap}
 use Rattle.std.proofs.Math.Option.{some}
-use Rattle.bits.specs.PackLaws.{unpack-pack}
+use Rattle.bits.proofs.PackLaws.{unpack-pack}
 use Rattle.lexical.specs.State.{Binding, Slot, Copy, St}
 use Rattle.lexical.specs.Records.{binding_row, entry_row, slot_row, copy_row, captured}
 use Rattle.answer.specs.Fields.{fields}
@@ -10,7 +10,7 @@ use Rattle.answer.specs.Records.{binding_widths, binding_of, entry_of, entry_fro
 use Rattle.store.specs.Words.{row_word, binding_word, bind_word, slot_word, error_word, copy_word}
 use Rattle.store.specs.Image.{Sound}
 use Rattle.store.specs.Rel.{caps}
-use Rattle.store.specs.Laws.Made.{flags_narrow}
+use Rattle.store.proofs.Laws.Made.{flags_narrow}
 use Rattle.scope.specs.Nodes.{answer_of}
 
 pub binding_word_lem : (st : St) (b : Binding) → bind_word (caps st) b ≡ binding_of (binding_row st.log b)

@@ -2,7 +2,7 @@
 use Rattle.std.proofs.Common.{ℕ, List, sym, ◌∙◌, subst, arith}
 use Rattle.base.specs.Parts.{part-from}
 use Rattle.nodefile.specs.Reads.{Reads}
-use Rattle.nodefile.specs.Parts.{size_from}
+use Rattle.nodefile.proofs.Laws.Parts.{size_from}
 use Rattle.collect.proofs.Counting.{c_node, c_more, c_end}
 use Rattle.collect.proofs.declare.param_count.Goals as goal
 

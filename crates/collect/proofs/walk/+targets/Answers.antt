@@ -4,7 +4,7 @@ use Rattle.store.specs.Sections.{mem}
 use Rattle.target.specs.Target.{marks_of}
 use Rattle.lexical.specs.Binders as bind
 use Rattle.lexical.specs.Binders.{collect}
-use Rattle.nodefile.specs.Parts.{size_from}
+use Rattle.nodefile.proofs.Laws.Parts.{size_from}
 use Rattle.collect.proofs.Picks.{statement_through, target_through, clause_through, expression_shut, type_shut}
 use Rattle.collect.proofs.Collecting.{through_node, loop_node, load_node, param_node}
 use Rattle.collect.proofs.Kids.{k_end, k_node, k_length, k_pre, k_more}

@@ -3,7 +3,6 @@
 use Prim.Native.Nat.{◌*◌}
 use mathlib.Core.Path.{sym}
 use native.Mathlib.Omega.{arith}
-use borrow.Author.Rules.{rules}
 use lib.ListN.{drop_of_length-le}
 use Rattle.base.specs.Parts.{part-from}
 use Rattle.nodefile.proofs.node.node.Goals as goal

@@ -1,11 +1,9 @@
 -- `nodefile::node::scope_count` meets its contract: the nodes below `i` are counted.
 -- Assumes nothing.
-use Prim.Native.Nat.{ℕ, ◌-◌, ◌≤◌}
 use mathlib.Core.Path.{sym, ap, ◌∙◌}
 use native.Mathlib.Omega.{arith}
-use Rattle.nodefile.specs.Layout.{node_count, nodes_of}
-use Rattle.nodefile.specs.Listed.{is_scope, kind_at}
-use Rattle.nodefile.proofs.Counted.{Counted, counted_none, counted-one, counted-not, counted_end}
+use Rattle.nodefile.specs.Listed.{is_scope}
+use Rattle.nodefile.proofs.Counted.{counted_none, counted-one, counted-not}
 use Rattle.nodefile.proofs.node.scope_count.Goals as goal
 use Rattle.nodefile.proofs.node.scope_count.Goals.{then-is_scope, else-is_scope}
 

@@ -1,12 +1,9 @@
 -- `nodefile::node::scope_count` meets its contract: the nodes below `i` are counted.
 -- Assumes nothing.
 use Prim.Native.Nat.{ℕ, ◌-◌, ◌≤◌}
-use mathlib.Core.Path.{sym, ap, ◌∙◌}
-use mathlib.Core.Logic.{⊎_elim}
-use native.Mathlib.Omega.{arith}
 use Rattle.nodefile.specs.Layout.{node_count, nodes_of}
 use Rattle.nodefile.specs.Listed.{is_scope, kind_at}
-use Rattle.nodefile.proofs.Counted.{Counted, counted_none, counted-one, counted-not, counted_end}
+use Rattle.nodefile.proofs.Counted.{Counted}
 use Rattle.nodefile.proofs.node.scope_count.Given as goal
 
 abbrev pub invariant-loop-i : goal.invariant-loop-i

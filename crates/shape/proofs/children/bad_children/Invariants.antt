@@ -12,7 +12,7 @@ use Rattle.lexical.specs.Table.{allowed}
 use Rattle.shape.specs.Children.{root_no_statement, other_children}
 use Rattle.shape.proofs.Pass.{Passed, passed_none, passed_inside, passed_more, passed_all}
 use Rattle.shape.proofs.Here.{node_here, kids_here}
-use Rattle.nodefile.specs.Fitting.{below-is}
+use Rattle.nodefile.proofs.Laws.Fitting.{below-is}
 use Rattle.shape.proofs.children.bad_children.Given as goal
 
 abbrev pub invariant-loop-t : goal.invariant-loop-t

@@ -2,7 +2,7 @@
 use native.Mathlib.Omega.{arith}
 use lib.ListN.{length}
 use Rattle.nodefile.specs.Kids.{Fits}
-use Rattle.nodefile.specs.Fitting.{fits_none, fits_first, fits_on, fits_back}
+use Rattle.nodefile.proofs.Laws.Fitting.{fits_none, fits_first, fits_on, fits_back}
 use Rattle.shape.proofs.nodes.kids_fit.Goals as goal
 
 pub loop-t-preserved : goal.loop-t-preserved

@@ -22,11 +22,11 @@ use Rattle.scope.specs.Answer.{Given, Resolves}
 use Rattle.scope.specs.Ready.{Ready}
 use Rattle.promise.specs.Shown.{name_of, source_of, local_of, nodes_around}
 use Rattle.scope.specs.Laws.Readies.{ready_scoped, ready_length}
-use Rattle.promise.specs.Laws.Sites.{ident_event}
+use Rattle.promise.proofs.Laws.Sites.{ident_event}
 use Rattle.scope.specs.Laws.Zero.{zero_accepted, zero_ready, zero_slots}
 use Rattle.promise.specs.Said.{params_of, copies_shown, NameSaid, ModuleSaid, StopsShown, SlotSaid}
-use Rattle.promise.specs.Laws.Shows.{copy_shown, params_shown}
-use Rattle.promise.specs.Laws.Saying.{local_said, module_said, stops_shown, slot_said}
+use Rattle.promise.proofs.Laws.Shows.{copy_shown, params_shown}
+use Rattle.promise.proofs.Laws.Saying.{local_said, module_said, stops_shown, slot_said}
 
 -- An accepted file, the tree that its nodes hold, and the file that the bytes stand for with it.
 module _ {bs : List ℕ} {b b' : Buffers} {a : Answer} (r : Resolves bs b a b') (z : a.number ≡ 0) (root : Forest) (t : Reads (nodes_of bs) 0 root) where

@@ -10,11 +10,11 @@ use Rattle.store.specs.Sections.{Mem, mem, block_at}
 use Rattle.store.specs.Image.{Image}
 use Rattle.store.specs.Meanings.{SavedAll, EnvIn, NamesIn, RangesIn}
 use Rattle.store.specs.Rel.{World, Rel}
-use Rattle.store.specs.Laws.Points.{Off}
-use Rattle.store.specs.Laws.Made.{made_skip}
-use Rattle.store.specs.Laws.Slots.{slots_skip_t}
-use Rattle.store.specs.Laws.Around.{env_push, env_pop}
-use Rattle.store.specs.Laws.Names.{names_skip, ranges_skip, scratch_skip}
+use Rattle.store.proofs.Laws.Points.{Off}
+use Rattle.store.proofs.Laws.Made.{made_skip}
+use Rattle.store.proofs.Laws.Slots.{slots_skip_t}
+use Rattle.store.proofs.Laws.Around.{env_push, env_pop}
+use Rattle.store.proofs.Laws.Names.{names_skip, ranges_skip, scratch_skip}
 
 -- the relation without the locals in reach and the scopes around
 pub record Rest (W : World) (cap : ℕ → Bool) (st : St) (s : State) (m : Mem) : Type 0 where

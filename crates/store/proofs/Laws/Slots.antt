@@ -17,8 +17,8 @@ use Rattle.answer.specs.Laws.{part-packed, changed-packed}
 use Rattle.store.specs.Sections.{or_zero}
 use Rattle.store.specs.Words.{pair_word, more_word, params_word, slot_word}
 use Rattle.store.specs.Image.{last_from, before, SlotsIn}
-use Rattle.store.specs.Laws.Chain.{last_snoc, before_end, before_others}
-use Rattle.store.specs.Laws.Points.{Off, Zeros, at_others, point_none, point_skip, point_set, point_push}
+use Rattle.store.proofs.Laws.Chain.{last_snoc, before_end, before_others}
+use Rattle.store.proofs.Laws.Points.{Off, Zeros, at_others, point_none, point_skip, point_set, point_push}
 
 pub fresh_few : (s : ℕ) (rs : List Slot) → fresh_in s rs ≤ length rs
 unfolding fresh_in count

@@ -12,7 +12,7 @@ use Rattle.lexical.proofs.Laws.Adds.{answers_snoc}
 use Rattle.lexical.specs.Records.{title_row}
 use Rattle.store.specs.Words.{row_node, row_word}
 use Rattle.store.specs.Image.{RowOf, name_row_lem, ident_row, HeldAt, held, none-held, NodesIn}
-use Rattle.store.specs.Laws.Points.{Zeros, at_others}
+use Rattle.store.proofs.Laws.Points.{Zeros, at_others}
 
 -- ---- any rows
 

@@ -17,9 +17,10 @@ use Rattle.lexical.specs.Claims.{NameRow}
 use Rattle.lexical.proofs.Theorems as lexical
 use Rattle.lexical.proofs.Theory.Kinds.{no_look, no_name}
 use Rattle.nodefile.specs.Layout.{node_count, nodes_of}
-use Rattle.nodefile.specs.Order.{spot_at}
+use Rattle.nodefile.proofs.Laws.Order.{spot_at}
 use Rattle.nodefile.specs.FileOf.{file_of}
-use Rattle.nodefile.specs.Listed.{kind_at, value_at, listed_in, in_listed}
+use Rattle.nodefile.specs.Listed.{kind_at, value_at}
+use Rattle.nodefile.proofs.Laws.Listed.{listed_in, in_listed}
 use Rattle.answer.specs.declared.Answer.{Answer}
 use Rattle.answer.specs.Buffers.{Buffers}
 use Rattle.scope.specs.Answer.{Given}
@@ -29,8 +30,8 @@ use Rattle.scope.specs.Laws.Readies.{ready_scoped, ready_headed, ready_distinct,
 use Rattle.scope.specs.Laws.Rows.{rows_of, answer_other}
 use Rattle.scope.specs.Laws.Targets.{each_spots}
 use Rattle.scope.specs.Laws.Fitting.{Fits, resolved_fit}
-use Rattle.promise.specs.Laws.Events.{name_bounds}
-use Rattle.promise.specs.Laws.Records.{node_at, node_read, bound_so}
+use Rattle.promise.proofs.Laws.Events.{name_bounds}
+use Rattle.promise.proofs.Laws.Records.{node_at, node_read, bound_so}
 
 -- a Name's record: the slot and the number of a binding of its name
 pub record NameShown (a : Answer) (b : Buffers) (x n : ℕ) : Type 0 where

@@ -12,7 +12,7 @@ use Rattle.lexical.specs.Third.{hand_in}
 use Rattle.lexical.proofs.Theory.Slots.{hand_other}
 use Rattle.store.specs.Sections.{or_zero}
 use Rattle.store.specs.Image.{last_from, last_of, before}
-use Rattle.store.specs.Laws.Points.{at_others}
+use Rattle.store.proofs.Laws.Points.{at_others}
 
 -- ---- one slot more
 

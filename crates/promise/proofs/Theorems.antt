@@ -32,15 +32,15 @@ use Rattle.promise.specs.Shown.{node_fields, nodes_around, Told, CapturedShown, 
 use Rattle.promise.specs.Said.{copies_shown, NameSaid}
 use Rattle.scope.specs.Laws.Accepts.{judged_tree}
 use Rattle.scope.specs.Laws.Readies.{ready_scoped, ready_distinct, ready_length}
-use Rattle.promise.specs.Laws.Sites.{ident_event}
+use Rattle.promise.proofs.Laws.Sites.{ident_event}
 use Rattle.scope.specs.Laws.Zero.{zero_accepted, zero_ready, zero_slots}
 use Rattle.scope.specs.Laws.One.{same_answer}
-use Rattle.promise.specs.Laws.Records.{back, copies_into_lem}
-use Rattle.promise.specs.Laws.Told.{ident_shown, homeward}
-use Rattle.promise.specs.Laws.Named.{other_empty}
-use Rattle.promise.specs.Laws.Shows.{pairs_shown}
-use Rattle.promise.specs.Laws.Saying.{name_said}
-use Rattle.promise.specs.Laws.Captured.{captured_shown}
+use Rattle.promise.proofs.Laws.Records.{back, copies_into_lem}
+use Rattle.promise.proofs.Laws.Told.{ident_shown, homeward}
+use Rattle.promise.proofs.Laws.Named.{other_empty}
+use Rattle.promise.proofs.Laws.Shows.{pairs_shown}
+use Rattle.promise.proofs.Laws.Saying.{name_said}
+use Rattle.promise.proofs.Laws.Captured.{captured_shown}
 
 -- A file and buffers of which no condition is true get 0: nothing is refused without its cause.
 pub none_true : {bs : List ℕ} {b b' : Buffers} {a : Answer} → Resolves bs b a b' → NoneHolds (resolving bs b) → a.number ≡ 0

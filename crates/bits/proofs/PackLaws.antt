@@ -10,10 +10,10 @@ use Rattle.std.proofs.Math.Nat.{mod-one, add-mul-div_right, mul-add-mod_self_rig
 use Rattle.std.proofs.Math.Pow.{high}
 use Rattle.std.proofs.lemmas.Nat.{mod-pow-add}
 use Rattle.bits.specs.Field.{field_of}
-use Rattle.bits.specs.FieldLaws.{field_lt, field-split, field_8, field-drop}
+use Rattle.bits.proofs.FieldLaws.{field_lt, field-split, field_8, field-drop}
 use Rattle.bits.specs.Digits.{join_lt}
 use Rattle.bits.specs.Put.{Written}
-use Rattle.bits.specs.PutLaws.{written_pair, written_fits}
+use Rattle.bits.proofs.PutLaws.{written_pair, written_fits}
 use Rattle.bits.specs.Pack.{widths, values, total, Narrow, pack, unpack, fields_of, bytes_of}
 
 pub pack_lt : (fs : List (ℕ × ℕ)) → Narrow fs → pack fs < 2 ^ total (widths fs)

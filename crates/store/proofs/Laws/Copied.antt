@@ -6,7 +6,7 @@ use Rattle.std.proofs.Math.ListN.{length-append}
 use Rattle.lexical.specs.State.{Copy}
 use Rattle.store.specs.Words.{pair_word, copied_word, copy_word, error_word}
 use Rattle.store.specs.Image.{CopiesIn, ErrorsIn}
-use Rattle.store.specs.Laws.Points.{Off, Zeros, point_none, point_skip, point_push}
+use Rattle.store.proofs.Laws.Points.{Off, Zeros, point_none, point_skip, point_push}
 
 pub copies_none : (w : List ℕ) → Zeros w → CopiesIn [] w
 copies_none w z = record { rows = point_none copy_word w 6144 4096 z; few = omega arith }

@@ -30,7 +30,7 @@ use Rattle.scope.specs.Answer.{Given}
 use Rattle.scope.specs.Ready.{Ready}
 use Rattle.promise.specs.Shown.{binding_fields, CapturedShown}
 use Rattle.scope.specs.Laws.Readies.{ready_scoped, ready_distinct}
-use Rattle.promise.specs.Laws.Records.{bindings_back}
+use Rattle.promise.proofs.Laws.Records.{bindings_back}
 
 -- ---- a Name declares a local of one scope only: its binding's
 

@@ -15,7 +15,7 @@ use Rattle.std.proofs.Math.Pow.{high, low}
 use Rattle.std.proofs.lemmas.Nat.{mod-pow-add}
 use Rattle.std.proofs.Math.ListN.{length-set}
 use Rattle.bits.specs.Field.{bit_of, field_of}
-use Rattle.bits.specs.FieldLaws.{field-split, field_same, field-bit, field_in_byte, field_8, bit_in_byte, bit-set}
+use Rattle.bits.proofs.FieldLaws.{field-split, field_same, field-bit, field_in_byte, field_8, bit_in_byte, bit-set}
 use Rattle.bits.specs.Digits.{bit_high, bit-low, splice, splice_above, splice_in, splice-below}
 use Rattle.bits.specs.Put.{Written}
 

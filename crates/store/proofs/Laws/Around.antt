@@ -14,7 +14,7 @@ use Rattle.lexical.specs.State.{Binding}
 use Rattle.lexical.specs.Block.{called}
 use Rattle.store.specs.Sections.{plus}
 use Rattle.store.specs.Meanings.{number_of, SavedAll, Stacked, EnvIn}
-use Rattle.store.specs.Laws.Points.{Off, Zeros, point_skip, point_set}
+use Rattle.store.proofs.Laws.Points.{Off, Zeros, point_skip, point_set}
 
 -- ---- the innermost local of a name
 

@@ -29,10 +29,10 @@ use Rattle.promise.specs.Shown.{node_fields, ErrorShown, Shown, Homeward}
 use Rattle.scope.specs.Laws.Readies.{ready_scoped, ready_headed, ready_distinct}
 use Rattle.scope.specs.Laws.Rows.{rows_of, error_none}
 use Rattle.scope.specs.Laws.Lists.{row_in}
-use Rattle.promise.specs.Laws.Events.{node_small, answer_bounds}
-use Rattle.promise.specs.Laws.Sites.{Lookup}
+use Rattle.promise.proofs.Laws.Events.{node_small, answer_bounds}
+use Rattle.promise.proofs.Laws.Sites.{Lookup}
 use Rattle.answer.specs.Records.{node_widths}
-use Rattle.promise.specs.Laws.Records.{node_at, node_read, errors-back, bound_so, copies_follow}
+use Rattle.promise.proofs.Laws.Records.{node_at, node_read, errors-back, bound_so, copies_follow}
 
 module _ {bs : List ℕ} {root : Forest} (q : Ready bs root) (few : length (resolved (file_of bs root)).slots ≤ 4096) {b b' : Buffers} {a : Answer} (g : Given (file_of bs root) (node_count bs) b a b') where
   abbrev F : File

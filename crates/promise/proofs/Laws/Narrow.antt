@@ -21,14 +21,14 @@ use Rattle.lexical.specs.Records as rec
 use Rattle.lexical.proofs.Laws.Numbers.{made_start, fresh_all}
 use Rattle.nodefile.specs.Reads.{count_of}
 use Rattle.nodefile.specs.FileOf.{file_of}
-use Rattle.nodefile.specs.FileLaws.{tree_count}
+use Rattle.nodefile.proofs.Laws.FileLaws.{tree_count}
 use Rattle.answer.specs.Fields.{fields}
 use Rattle.answer.specs.Records.{binding_widths, entry_widths, pair_widths, copy_widths}
 use Rattle.scope.specs.Ready.{Ready}
 use Rattle.scope.specs.Laws.Lists.{row_from}
-use Rattle.store.specs.Laws.Made.{bit_below}
+use Rattle.store.proofs.Laws.Made.{bit_below}
 use Rattle.scope.specs.Laws.Bounds.{made_bounds, slot_bounds, copy_bounds}
-use Rattle.promise.specs.Laws.Events.{node_small, error_one, error_fits}
+use Rattle.promise.proofs.Laws.Events.{node_small, error_one, error_fits}
 
 abbrev pub Fit : List ℕ → List ℕ → Type 0
 Fit ws row = Narrow (fields ws row)

@@ -10,7 +10,7 @@ use Rattle.lexical.specs.Module.{File}
 use Rattle.lexical.specs.State.{Binding}
 use Rattle.store.specs.Sections.{plus}
 use Rattle.store.specs.Meanings.{NamesIn, Range, RangesIn}
-use Rattle.store.specs.Laws.Points.{Off, Zeros, point_skip, point_set}
+use Rattle.store.proofs.Laws.Points.{Off, Zeros, point_skip, point_set}
 
 -- ---- the module, the globals, hidden names
 

@@ -36,10 +36,10 @@ use Rattle.scope.specs.Laws.Front.{front_get}
 use Rattle.scope.specs.Laws.Readies.{ready_scoped, ready_headed, ready_distinct}
 use Rattle.scope.specs.Laws.Rows.{rows_of, answer_at}
 use Rattle.scope.specs.Laws.Bounds.{copy_bounds}
-use Rattle.promise.specs.Laws.Events.{RowFits}
-use Rattle.promise.specs.Laws.Reading.{front_read}
-use Rattle.promise.specs.Laws.Narrow.{Fit, bindings_narrow, entries_narrow, scopes_narrow, slots_narrow, copies_narrow, errors_narrow}
-use Rattle.promise.specs.Laws.Copies.{follow_read, into_read}
+use Rattle.promise.proofs.Laws.Events.{RowFits}
+use Rattle.promise.proofs.Laws.Reading.{front_read}
+use Rattle.promise.proofs.Laws.Narrow.{Fit, bindings_narrow, entries_narrow, scopes_narrow, slots_narrow, copies_narrow, errors_narrow}
+use Rattle.promise.proofs.Laws.Copies.{follow_read, into_read}
 
 -- a list of rows that fit, packed to the front of a buffer
 list_back : (ws : List ℕ) (rows : List (List ℕ)) (l : List ℕ) (n : ℕ) → Front l n (map (packed ws) rows) → All (Fit ws) rows → ReadsBack ws rows l

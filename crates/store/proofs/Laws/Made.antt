@@ -17,7 +17,7 @@ use Rattle.answer.specs.Records.{binding_widths, binding_of, binding_name, bindi
 use Rattle.answer.specs.Laws.{part-packed, changed-packed}
 use Rattle.store.specs.Words.{binding_word, bind_word, captured_word, again_word}
 use Rattle.store.specs.Image.{Sound, MadeIn}
-use Rattle.store.specs.Laws.Points.{Off, Zeros, Replaced, at_others, point_none, point_skip, point_same, point_push, point_set, point_replaced, point_kept, replaced_long, absent_past, word_at_lem}
+use Rattle.store.proofs.Laws.Points.{Off, Zeros, Replaced, at_others, point_none, point_skip, point_same, point_push, point_set, point_replaced, point_kept, replaced_long, absent_past, word_at_lem}
 
 -- a binding bound again: any, and Public if this target is
 abbrev pub bound_again : Bool → Binding → Binding

@@ -8,8 +8,9 @@ use Rattle.lexical.specs.Places.{In}
 use Rattle.lexical.specs.Tree.{Forest, nodes_in}
 use Rattle.nodefile.specs.Layout.{node_count, entry_count, global_count, file_length, nodes_of, entries_of, globals_of, nodes_length}
 use Rattle.nodefile.specs.Lists.{global_name}
-use Rattle.nodefile.specs.Reads.{Reads, count_of, reads_length}
-use Rattle.nodefile.specs.Listed.{nodes_below}
+use Rattle.nodefile.specs.Reads.{Reads, count_of}
+use Rattle.nodefile.proofs.Laws.Reads.{reads_length}
+use Rattle.nodefile.proofs.Laws.Listed.{nodes_below}
 use Rattle.nodefile.specs.FileOf.{entry_of, file_of}
 
 module _ (bs : List ℕ) (root : Forest) where

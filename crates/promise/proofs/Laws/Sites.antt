@@ -20,8 +20,10 @@ use Rattle.lexical.specs.Claims.{Scoped, view, told, ancestors}
 use Rattle.lexical.proofs.Theorems.{T1_all, T1_at}
 use Rattle.lexical.proofs.Theory.Outcome.{site_of, node_of, name_of}
 use Rattle.nodefile.specs.Reads.{Reads}
-use Rattle.nodefile.specs.Order.{Spot, spots_in, spot_at}
-use Rattle.nodefile.specs.Listed.{kind_at, value_at, in_listed, nodes_distinct}
+use Rattle.nodefile.specs.Order.{Spot, spots_in}
+use Rattle.nodefile.proofs.Laws.Order.{spot_at}
+use Rattle.nodefile.specs.Listed.{kind_at, value_at}
+use Rattle.nodefile.proofs.Laws.Listed.{in_listed, nodes_distinct}
 use Rattle.scope.specs.Laws.Lists.{times_in, found_at}
 
 -- ---- somewhere in a list

@@ -30,8 +30,9 @@ use Rattle.lexical.proofs.Theory.Listed.{listed-map}
 use Rattle.lexical.proofs.Theory.Nodes.{no_ancestors}
 use Rattle.nodefile.specs.Layout.{node_count, nodes_of}
 use Rattle.nodefile.specs.FileOf.{file_of}
-use Rattle.nodefile.specs.FileLaws.{tree_below}
-use Rattle.nodefile.specs.Listed.{kind_at, value_at, in_listed}
+use Rattle.nodefile.proofs.Laws.FileLaws.{tree_below}
+use Rattle.nodefile.specs.Listed.{kind_at, value_at}
+use Rattle.nodefile.proofs.Laws.Listed.{in_listed}
 use Rattle.follow.specs.Place.{place_of}
 use Rattle.answer.specs.declared.Answer.{Answer}
 use Rattle.answer.specs.Buffers.{Buffers}
@@ -40,12 +41,12 @@ use Rattle.scope.specs.Ready.{Ready}
 use Rattle.promise.specs.Shown.{node_fields, name_of, source_of, local_of, slot_of}
 use Rattle.scope.specs.Laws.Readies.{ready_scoped, ready_distinct, ready_length}
 use Rattle.scope.specs.Laws.Rows.{rows_of}
-use Rattle.promise.specs.Laws.Events.{RowFits, name_bounds}
-use Rattle.promise.specs.Laws.Sites.{Lookup}
-use Rattle.promise.specs.Laws.Named.{name_shown}
-use Rattle.promise.specs.Laws.Records.{back, node_read, binding_read, bound_so, copies_follow}
+use Rattle.promise.proofs.Laws.Events.{RowFits, name_bounds}
+use Rattle.promise.proofs.Laws.Sites.{Lookup}
+use Rattle.promise.proofs.Laws.Named.{name_shown}
+use Rattle.promise.proofs.Laws.Records.{back, node_read, binding_read, bound_so, copies_follow}
 use Rattle.promise.specs.Said.{StopsShown, MadeShown, OwnSlot, BlockShown, NameSaid, slots_below, ModuleSaid, SlotSaid}
-use Rattle.promise.specs.Laws.Shows.{made_shown, public_read, copy_shown, slot_shown}
+use Rattle.promise.proofs.Laws.Shows.{made_shown, public_read, copy_shown, slot_shown}
 
 -- an element at each place
 at_some : {A : Type 0} (xs : List A) (i : ℕ) → i < length xs → (a : A) × (get_elem? xs i ≡ some a)

@@ -35,9 +35,9 @@ use Rattle.answer.specs.Records.{pair_widths}
 use Rattle.scope.specs.Answer.{Given}
 use Rattle.scope.specs.Ready.{Ready}
 use Rattle.scope.specs.Laws.Bounds.{copy_bounds}
-use Rattle.promise.specs.Laws.Copies.{bare, copies_read}
+use Rattle.promise.proofs.Laws.Copies.{bare, copies_read}
 use Rattle.scope.specs.Laws.Readies.{ready_scoped}
-use Rattle.promise.specs.Laws.Records.{back, bindings_back}
+use Rattle.promise.proofs.Laws.Records.{back, bindings_back}
 use Rattle.scope.specs.Laws.Within.{no_scope}
 use Rattle.promise.specs.Said.{public_of, copies_shown, params_of, slots_of, MadeShown}
 

@@ -5,7 +5,7 @@ use Rattle.std.proofs.Common.{sym, ap, ◌∙◌}
 use Rattle.std.proofs.Math.Option.{some}
 use Rattle.std.proofs.Math.ListN.{get_elem?}
 use Rattle.bits.specs.Pack.{values, Narrow, unpack}
-use Rattle.store.specs.Laws.Points.{word_at_lem}
+use Rattle.store.proofs.Laws.Points.{word_at_lem}
 use Rattle.answer.specs.Buffers.{Front}
 use Rattle.answer.specs.Fields.{fields, packed}
 use Rattle.answer.specs.Laws.{unpack-packed}

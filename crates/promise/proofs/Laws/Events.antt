@@ -27,8 +27,8 @@ use Rattle.lexical.proofs.Theory.Last.{last}
 use Rattle.lexical.proofs.Laws.Below.{SlotFits, answer_below}
 use Rattle.nodefile.specs.Layout.{node_count, nodes_of}
 use Rattle.nodefile.specs.FileOf.{file_of}
-use Rattle.nodefile.specs.FileLaws.{globals_count}
-use Rattle.nodefile.specs.Listed.{listed_in}
+use Rattle.nodefile.proofs.Laws.FileLaws.{globals_count}
+use Rattle.nodefile.proofs.Laws.Listed.{listed_in}
 use Rattle.scope.specs.Laws.Lists.{times-at, in_times}
 use Rattle.scope.specs.Ready.{Ready}
 use Rattle.scope.specs.Laws.Readies.{ready_scoped, ready_length, ready_made}
