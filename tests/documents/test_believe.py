@@ -7,7 +7,7 @@ from documents import believe
 SPECS = """-- A file.
 use Rattle.std.specs.Prelude.{List}
 use Rattle.lexical.specs.Tree.{Forest, way}
-use Rattle.lexical.proofs.Code.Rows.{◌⊗◌}
+use Rattle.lexical.proofs.Laws.Rows.{◌⊗◌}
 
 -- a data type
 pub data Turn : Type 0 where
@@ -36,7 +36,7 @@ class Believe(unittest.TestCase):
         self.assertEqual((law.name, law.defines), ("law", False))
         self.assertEqual([line.strip() for line in law.statement], ["pub law : (t : Turn)", "→ t ≡ once", "module _ (F : Forest) where"])
         found = {"List": ("std", "specs/Prelude", "List"), "Forest": ("lexical", "specs/Tree", "Forest"), "way": ("lexical", "specs/Tree", "way")}
-        rows = ("lexical", "proofs/Code/Rows", "◌⊗◌")
+        rows = ("lexical", "proofs/Laws/Rows", "◌⊗◌")
         self.assertEqual(believe.imports(SPECS), {**found, "◌⊗◌": rows, "⊗": rows})
 
     def test_words(self):
@@ -46,7 +46,7 @@ class Believe(unittest.TestCase):
         reached = believe.believed(believe.Specs())
         wanted = {("lexical", "specs/Meaning", "declared"), ("lexical", "specs/Claims", "ancestors"), ("lexical", "specs/Order", "steps")}
         self.assertLessEqual(wanted, reached)
-        self.assertFalse([r for r in reached if r[0] == "store" or r[1].split("/")[1] in ("Proof", "Laws", "Code")])
+        self.assertFalse([r for r in reached if r[0] == "store" or r[1].split("/")[1] in ("Theory", "Laws")])
 
     def test_faults(self):
         reached = {("lexical", "specs/Meaning", "declared"), ("lexical", "specs/Order", "steps")}
