@@ -107,7 +107,7 @@ class File:
 
 
 def imports(text):
-    """Name to (crate, file, name there); `alias.` to (crate, file, None). A file is `specs/Code/Rows`, say."""
+    """Name to (crate, file, name there); `alias.` to (crate, file, None). A file is `proofs/Laws/Rows`, say."""
     found = {}
     for line in text.split("\n"):
         if m := USE.match(line.strip()):
