@@ -3,12 +3,7 @@ ghost use Rattle.std.specs.Prelude.{◌≡◌, [], ◌∷◌};
 ghost use Rattle.answer.specs.Fields.{packed, cut, changed, Part};
 ghost use Rattle.answer.specs.Records.{binding_widths};
 
-// How many values a field has.
-const WORD: u64 = 65536;
-
-const FLAG: u64 = 2;
-
-const PLACE: u64 = 32768;
+use crate::widths::{FLAG, PLACE, WORD};
 
 // What one of a field counts in the record.
 const SLOT: u64 = 4096;
@@ -98,7 +93,7 @@ pub fn make(
         + slot % PLACE * SLOT
 }
 
-// The record with this field replaced.
+// The record with this field replaced. Each writer is one line: a function for the three would take the field's value and its weight, and be no plainer.
 pub fn with_public(r: u64, v: u64) -> u64
     ensures { result ≡ changed binding_widths 3 v r }
 {

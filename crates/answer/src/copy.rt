@@ -14,19 +14,19 @@ const SCOPE: u64 = PARENT * PLACE;
 pub fn scope(r: u32) -> u64
     ensures { Part copy_widths 0 r result }
 {
-    (r as u64) / SCOPE % NUMBER
+    u64::from(r) / SCOPE % NUMBER
 }
 
 pub fn parent(r: u32) -> u64
     ensures { Part copy_widths 1 r result }
 {
-    (r as u64) / PARENT % PLACE
+    u64::from(r) / PARENT % PLACE
 }
 
 pub fn child(r: u32) -> u64
     ensures { Part copy_widths 2 r result }
 {
-    (r as u64) % PLACE
+    u64::from(r) % PLACE
 }
 
 // The record of these fields, each cut to its width.

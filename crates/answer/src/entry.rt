@@ -3,11 +3,7 @@ ghost use Rattle.std.specs.Prelude.{◌≡◌, [], ◌∷◌};
 ghost use Rattle.answer.specs.Fields.{packed, cut, Part};
 ghost use Rattle.answer.specs.Records.{entry_widths};
 
-const WORD: u64 = 65536;
-
-const FLAG: u64 = 2;
-
-const PLACE: u64 = 32768;
+use crate::widths::{FLAG, PLACE, WORD};
 
 const PUBLIC: u64 = PLACE;
 
@@ -16,19 +12,19 @@ const NAME: u64 = PUBLIC * FLAG;
 pub fn name(r: u32) -> u64
     ensures { Part entry_widths 0 r result }
 {
-    (r as u64) / NAME % WORD
+    u64::from(r) / NAME % WORD
 }
 
 pub fn public(r: u32) -> u64
     ensures { Part entry_widths 1 r result }
 {
-    (r as u64) / PUBLIC % FLAG
+    u64::from(r) / PUBLIC % FLAG
 }
 
 pub fn slot(r: u32) -> u64
     ensures { Part entry_widths 2 r result }
 {
-    (r as u64) % PLACE
+    u64::from(r) % PLACE
 }
 
 // The record of these fields, each cut to its width.

@@ -1,10 +1,10 @@
 -- What a list of places holds: as many numbers as fit, and zeros behind.
 --     fitted_zeros   scope 0 alone is zeros
 --     fitted_more    one number more
---     holds_more, holds_same, holds-none, holds_as   the same, with their count
+--     holds_more, holds-none, holds_as   the same, with their count
 use Prim.Native.Nat.{ℕ, zero, suc, ◌+◌, ◌<◌}
 use mathlib.Core.Path.{◌≡◌, refl, sym, ap, ◌∙◌}
-use mathlib.Core.List.{List, [], ◌∷◌, ◌++◌, append-nil}
+use mathlib.Core.List.{List, [], ◌∷◌, ◌++◌}
 use native.Mathlib.Omega.{arith}
 use native.Mathlib.Decide.{ℕ_discrete, dec_lt}
 use lib.ListN.{length, get_or, set, replicate, length-set, length-replicate, get_or-replicate, length-append, get_or-eq_default, get_or-append}
@@ -57,9 +57,6 @@ module _ {xs : List ℕ} {n : ℕ} {out : List ℕ} (h : Holds xs n out out) whe
     count = omega (arith, h.count, length-append xs (a ∷ []));
     places = e ∙ ap (λ (l : List ℕ). set l n a) h.places ∙ ap (λ (k : ℕ). set (fitted (length out) xs) k a) h.count ∙ fitted_more (length out) xs a;
   }
-
-  pub holds_same : Holds (xs ++ []) n out out
-  holds_same = rw (append-nil xs) h
 
 pub holds-none : (old new : List ℕ) → new ≡ replicate (length old) 0 → Holds [] 0 old new
 holds-none old new e = record { count = refl; places = e ∙ fitted_none (length old) }

@@ -1,5 +1,4 @@
 mod Read
-mod Zeros
 mod Fitted
 mod Going
 mod Walking

@@ -1,5 +1,6 @@
 pub mod Ends
 pub mod Scopes
+pub mod Own
 pub mod Outer
 pub mod Descent
 pub mod Levels

@@ -1,17 +1,7 @@
 // Numbers put at places of a list.
-ghost use Rattle.std.specs.Prelude.{◌≡◌, length, replicate, set};
+ghost use Rattle.std.specs.Prelude.{◌≡◌, set};
 
-pub fn clear(out: &mut [u32])
-    ensures { out.new ≡ replicate (length out.old) 0 }
-{
-    let mut i = 0;
-    while i < out.len() {
-        out[i] = 0;
-        i += 1;
-    }
-}
-
-// Where there is no such place, nothing changes.
+// Where there is no such place, nothing changes. (By its index: of what is written behind a `get_mut` nothing is known of the list.)
 pub fn put(out: &mut [u32], i: usize, x: u32)
     ensures { out.new ≡ set out.old i x }
 {

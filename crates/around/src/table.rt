@@ -1,28 +1,8 @@
 // All nodes, and the scope that each Def and Lambda stands in.
-ghost use Rattle.std.specs.Prelude.{◌≡◌, cond, ℕ, ◌+◌, ◌^◌, ◌≤◌, ◌<◌};
-ghost use Rattle.lexical.specs.Tree.{when};
+ghost use Rattle.std.specs.Prelude.{◌≡◌, ℕ, ◌+◌, ◌^◌, ◌≤◌, ◌<◌};
 ghost use Rattle.around.specs.Outer.{outer_in, stored};
 
-use crate::{ends, place};
-use nodefile::kinds;
-
-fn choose(so: bool, one: u32, other: u32) -> u32
-    ensures { result ≡ cond so one other }
-{
-    if so {
-        return one;
-    }
-    other
-}
-
-// Notes the scope around a node at its own scope's number, if it has one.
-fn note(out: &mut [u32], so: bool, own: usize, around: u32)
-    ensures { out.new ≡ stored (when so (own, around)) out.old }
-{
-    if so {
-        place::put(out, own, around);
-    }
-}
+use crate::{ends, own, place};
 
 // The siblings from one node to another, and so many levels of nodes from them on down: the last of them stands in inner, the others in scope.
 pub fn within(
@@ -41,15 +21,16 @@ pub fn within(
         return;
     }
     let mut p = from;
+    // p goes from sibling to sibling by their sizes: no `for` counts so
     while p < to {
         let t = nodefile::node::node(ns, p);
         let q = ends::end_in(nodefile::size(t) as usize, p, to);
-        let here = choose(q == to, inner, scope);
-        let own = kinds::is_scope(nodefile::kind(t));
-        let number = nodefile::value(t);
-        note(out, own, number as usize, here);
-        let last = choose(own, number as u32, here);
-        within(ns, p + 1, q, here, last, levels - 1, out);
+        let here = if q == to { inner } else { scope };
+        let own = own::own_scope(t);
+        if let Some(own) = own {
+            place::put(out, own as usize, here);
+        }
+        within(ns, p + 1, q, here, own.unwrap_or(here), levels - 1, out);
         p = q;
     }
 }

@@ -14,19 +14,13 @@ fn power(k: usize) -> u64
     1 << k
 }
 
-// A byte as a wide number.
-fn wide(x: u8) -> u64
-    ensures { result ≡ x }
-{
-    x as u64
-}
-
 // Bit i of s: in byte i / 8, counted from its most significant bit.
+#[tactic(auto, unfolding(crate::specs::Field::bit_of))]
 fn bit(s: &[u8], i: usize) -> u64
     requires { i < 8 * length s.now }
     ensures { result ≡ bit_of s.now i }
 {
-    (wide(s[i / 8]) >> (7 - i % 8)) % 2
+    (u64::from(s[i / 8]) >> (7 - i % 8)) % 2
 }
 
 // The width bits of s from bit at on, one by one, the most significant first (docs/DRAWING.md).
@@ -75,19 +69,11 @@ fn spliced(b: u8, n: usize, j: usize, v: u64) -> u8
     requires { n + j ≤ 8 }
     ensures { result ≡ splice b n j v }
 {
-    let x = b as u64;
+    let x = u64::from(b);
     let top = power(n + j);
     let low = power(j);
+    // a byte, as the contract proves: `try_from` would bring an error that cannot be
     (x / top * top + (v % power(n) * low + x % low)) as u8
-}
-
-fn least(a: usize, b: usize) -> usize
-    ensures { (result ≤ a) × (result ≤ b) × (0 < a → 0 < b → 0 < result) }
-{
-    if a < b {
-        return a;
-    }
-    b
 }
 
 // Puts the last width bits of value where the field of width bits at bit at stands.
@@ -109,7 +95,7 @@ pub fn put_field(s: &mut [u8], at: usize, width: usize, value: u64)
     while w > 0 {
         let last = (skip + w - 1) / 8;
         let j = 8 * last + 8 - (skip + w);
-        let n = least(w, 8 - j);
+        let n = w.min(8 - j);
         let i = first + last;
         s[i] = spliced(s[i], n, j, v);
         v = v / power(n);

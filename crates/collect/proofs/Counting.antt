@@ -1,54 +1,34 @@
 -- A function's parameter variables, counted node by node.
-use Prim.Native.Nat.{ℕ, ◌+◌, ◌*◌, ◌≤◌, ◌<◌}
-use mathlib.Core.Path.{◌≡◌, refl, sym, ap, ◌∙◌, subst}
-use mathlib.Core.Bool.{Bool, true, false, cond, not, ◌&&◌}
-use mathlib.Core.List.{List}
-use native.Mathlib.Omega.{arith}
-use lib.ListN.{length, drop}
-use lib.Dec.{eqb}
-use Rattle.bits.proofs.FieldLaws.{field_past}
-use Rattle.lexical.specs.Lists.{eqb-not}
-use Rattle.lexical.specs.Tree.{Forest, nil, node, empty, after, params}
+use Rattle.std.specs.Prelude.{ℕ, ◌+◌, ◌-◌, ◌*◌, ◌≤◌, ◌<◌, ◌≡◌, refl, Bool, true, false, cond, not, ◌&&◌, eqb, ltb, List, length, take, drop}
+use Rattle.std.proofs.Common.{sym, ap, ◌∙◌, subst, arith, length-take-le, length-drop}
+use Rattle.std.proofs.lemmas.Bool.{lt-ltb}
+use Rattle.lexical.specs.Records.{bit}
+use Rattle.lexical.specs.Tree.{Forest, nil, node, empty, params}
 use Rattle.nodefile.specs.Node.{kind_of, size_of, value_of}
 use Rattle.nodefile.specs.Reads.{Reads, count_of}
 use Rattle.nodefile.proofs.Laws.Reads.{reads_size}
-use Rattle.nodefile.specs.Parts.{Walk, Left, Sibling}
-use Rattle.nodefile.proofs.Laws.Parts.{left_end, left_split, left_sibling, left_more}
-use Rattle.collect.specs.Declare.{Params}
+use Rattle.nodefile.specs.Parts.{Walk, Left}
+use Rattle.nodefile.proofs.Laws.Parts.{left_end, left_split, left_one}
+use Rattle.collect.proofs.Rests.{rest_sizes, rest_more}
 
 -- ---- one node
 
-none-empty : (f : Forest) → count_of f ≡ 0 → empty f ≡ true
+has_name : (kids : Forest) (n : ℕ) → n ≡ 1 + count_of kids → ltb 1 n ≡ not (empty kids)
 unfolding empty
-none-empty nil e = refl
-none-empty (node a k v kids rest) e = absurd (omega arith)
+has_name nil n e = rw e refl
+has_name (node a k v kids rest) n e = lt-ltb 1 n (omega arith)
 
-some-not-empty : (f : Forest) → 0 < count_of f → empty f ≡ false
-unfolding empty
-some-not-empty nil h = absurd (omega arith)
-some-not-empty (node a k v kids rest) h = refl
+-- a part whose first node is a Param with a Name
+abbrev pub named : List ℕ → Bool
+named t = eqb (kind_of t) 17 && ltb 1 (size_of t)
 
--- it has another kind than Param, or no Name, or is a Param with a Name
-pub param_other : (t : List ℕ) (at : ℕ) (f : Forest) → (kind_of t ≡ 17 → ⊥) → Reads t at f → Params f 0
-unfolding Params params after
-param_other t at nil h r = refl
-param_other t at (node a k v kids rest) h r = rw (eqb-not k 17 (λ e. h (sym r.kind ∙ e))) refl
-
-pub param_bare : (t : List ℕ) (at : ℕ) (f : Forest) → size_of t < 2 → Reads t at f → Params f 0
-unfolding Params params after
-param_bare t at nil h r = refl
-param_bare t at (node a k v kids rest) h r = rw (none-empty kids (omega (arith, reads_size a k v kids rest t at r))) (no_more (eqb k 17) (params rest))
+one_more : (t : List ℕ) (n a v : ℕ) (kids rest : Forest) → Reads t n (node a (kind_of t) v kids rest) → bit (named t) ≡ params (node a (kind_of t) v kids nil)
+unfolding params bit
+one_more t n a v kids rest r = rw (has_name kids (size_of t) (reads_size a (kind_of t) v kids rest t n r)) (go (eqb (kind_of t) 17 && not (empty kids)))
   where
-    no_more : (b : Bool) (n : ℕ) → 0 + n ≡ cond (b && not true) 1 0 + n
-    no_more true n = refl
-    no_more false n = refl
-
-pub param_named : (t : List ℕ) (at : ℕ) (f : Forest) → kind_of t ≡ 17 → 2 ≤ size_of t → Reads t at f → Params f 1
-unfolding Params params after
-param_named t at nil h s r = absurd (let z : size_of t ≡ 0 = field_past t 8 16 (omega (arith, ap length r)) in let n : ⊥ = omega arith in n)
-param_named t at (node a k v kids rest) h s r =
-    let e : k ≡ 17 = r.kind ∙ h in
-    rw (e, some-not-empty kids (omega (arith, reads_size a k v kids rest t at r))) refl
+    go : (b : Bool) → bit b ≡ cond b 1 0 + 0
+    go true = refl
+    go false = refl
 
 -- ---- one after the other
 
@@ -63,39 +43,38 @@ count-stop x = omega arith
 abbrev pub counting : Walk ℕ
 counting = record { Fine = λ f. Unit {0}; over = λ f x. x + params f; apart = λ a k v kids rest u. (tt, tt); stop = count-stop; step = count_step }
 
-pub record Counted (part : List ℕ) (n i : ℕ) : Type 0 where
-  pub le : i ≤ length part
-  pub few : 8 * n ≤ i
-  pub left : (at : ℕ) (f : Forest) → Reads part at f → (j : ℕ) × Left counting (λ x. x ≡ n) part j i (params f)
+-- the nodes before those in `rest` have n parameter variables
+pub record Counted (part rest : List ℕ) (n : ℕ) : Type 0 where
+  pub few : 8 * n + length rest ≤ length part
+  pub left : (at : ℕ) (f : Forest) → Reads part at f → (j : ℕ) × Left counting (λ x. x ≡ n) rest j 0 (params f)
 
-pub c_start : (part : List ℕ) → Counted part 0 0
+pub c_start : (part : List ℕ) → Counted part part 0
 c_start part = record {
-  le = omega arith;
   few = omega arith;
   left = λ at f r. (at, record { f = f; x = 0; reads = r; fine = tt; known = refl; same = omega arith });
 }
 
-module _ {part : List ℕ} {n i : ℕ} (d : Counted part n i) where
-  pub c_end : length part ≤ i → (at : ℕ) (f : Forest) → Reads part at f → n ≡ params f
-  c_end h at f r = sym (left_end counting (d.left at f r).1 h)
+bit_small : (b : Bool) → bit b ≤ 1
+unfolding bit
+bit_small true = omega arith
+bit_small false = omega arith
 
-  module _ (h : i < length part) (at : ℕ) (f : Forest) (r : Reads part at f) where
-    pub c_node : Sibling part i
-    c_node = left_sibling counting (d.left at f r).1 h
+module _ {part rest : List ℕ} {n : ℕ} (d : Counted part rest n) where
+  pub c_end : length rest ≡ 0 → (at : ℕ) (f : Forest) → Reads part at f → n ≡ params f
+  c_end h at f r = sym (left_end counting (d.left at f r).1 (omega arith))
 
-  one_of : (a k v x : ℕ) (f kids rest : Forest) → f ≡ node a k v kids rest → Params f x → x ≡ params (node a k v kids nil)
-  unfolding Params params after
-  one_of a k v x f kids rest e p = let z : Params (node a k v kids rest) x = subst (λ (g : Forest). Params g x) e p in omega arith
+  module _ (h : 0 < length rest) (k : ℕ) (hk : k ≡ size_of rest) where
+    pub c_sizes : ((at : ℕ) × (f : Forest) × Reads part at f) → (0 < k) × (8 * k ≤ length rest)
+    c_sizes (at, f, r) = rest_sizes counting (d.left at f r).1 h k hk
 
-  pub c_more : (h : i < length part) (x k : ℕ) → k ≡ size_of (drop i part) → x ≤ 1 → ((at : ℕ) (f : Forest) → Reads (drop i part) at f → Params f x)
-      → ((at : ℕ) × (f : Forest) × Reads part at f) → Counted part (n + x) (i + 8 * k)
-  c_more h x k hk l p (at₀, f₀, r₀) =
-      let s = c_node h at₀ f₀ r₀ in
-      record {
-        le = omega (arith, s.inside);
-        few = omega (arith, d.few, s.some);
-        left = λ at f r.
-            let (j, q) = d.left at f r in
-            let z = left_split counting q h in
-            (j + k, left_more counting q h k hk (λ y. y ≡ n + x) (omega (arith, q.known, one_of j (kind_of (drop i part)) (value_of (drop i part)) x q.f z.kids z.rest z.is (p j q.f q.reads))));
-      }
+    pub c_more : {b : Bool} → b ≡ named rest → ((at : ℕ) × (f : Forest) × Reads part at f) → Counted part (take (length rest - 8 * k) (drop (8 * k) rest)) (n + bit b)
+    c_more {b} e g =
+        let z = c_sizes g in
+        record {
+          few = omega (arith, d.few, z, bit_small b, length-take-le (length rest - 8 * k) (drop (8 * k) rest) (omega (arith, length-drop (8 * k) rest)));
+          left = λ at f r.
+              let (j, q) = d.left at f r in
+              let s = left_split counting q h in
+              let u : bit b ≡ params (left_one counting q h) = ap bit e ∙ one_more rest j j (value_of rest) s.kids s.rest (subst (λ (x : Forest). Reads rest j x) s.is q.reads) in
+              (j + k, rest_more counting q h k hk (λ y. y ≡ n + bit b) (omega (arith, q.known)));
+        }

@@ -1,5 +1,5 @@
 -- The steps of `declare_node`: what a Def, a Lambda and another node add to the tables of walk two.
-use Prim.Native.Nat.{ℕ, ◌+◌, ◌-◌, ◌*◌, ◌≤◌}
+use Rattle.std.specs.Prelude.{ℕ, ◌+◌, ◌-◌, ◌*◌, ◌≤◌, Result}
 use mathlib.Core.Path.{◌≡◌, refl, sym, ap, ◌∙◌}
 use mathlib.Core.List.{List, [], ◌∷◌, append-nil}
 use native.Mathlib.Omega.{arith}
@@ -15,6 +15,7 @@ use Rattle.lexical.proofs.Theory.Kinds.{no_fn}
 use Rattle.nodefile.specs.Node.{size_of, kind_of, value_of, below}
 use Rattle.nodefile.proofs.Laws.Reads.{below_length}
 use Rattle.store.specs.declared.ids.State.{State}
+use Rattle.store.specs.declared.ids.Full.{Full}
 use Rattle.store.specs.Sections.{Mem}
 use Rattle.nodefile.specs.Parts.{Named}
 use Rattle.nodefile.proofs.Laws.Parts.{kids_part, named}
@@ -38,13 +39,13 @@ module _ (N : Names) (k v : ℕ) (kids : Forest) (x : List Row × St) where
   unfolding declare_here when
   here_other a b = rw (no_fn k a b) (refl, refl)
 
--- `&part[16..e]`: the children without the first, if that takes 8 bytes
+-- `&part[8 * before..end]` of a Def: the children without the first, if that takes 8 bytes
 pub second-part : (t : List ℕ) (k : ℕ) → k ≡ size_of t → take (8 * k - 16) (drop 16 t) ≡ drop 8 (below t)
 second-part t k h =
     let z : 8 * size_of t - 8 - 8 ≡ 8 * k - 16 = omega arith in
     rw (drop-take 8 (8 * size_of t - 8) (drop 8 t), z, drop-drop 8 8 t) refl
 
-module _ {part : List ℕ} {at : ℕ} {s : State} {m : Mem} (p : PreHere part at s m) where
+module _ {part : List ℕ} {at : ℕ} {s : Result State Full} {m : Mem} (p : PreHere part at s m) where
   -- neither a Def nor a Lambda
   pub d_other : (kind_of part ≡ 6 → ⊥) → (kind_of part ≡ 12 → ⊥) → HereDone part at s m s m
   d_other a b = record {
@@ -56,6 +57,14 @@ module _ {part : List ℕ} {at : ℕ} {s : State} {m : Mem} (p : PreHere part at
   module _ (k : ℕ) (hk : k ≡ size_of part) where
     pub d_long : (8 ≤ 8 * k) × (8 * k ≤ length part)
     d_long = let g = p.ghost in omega (arith, g.some, g.inside)
+
+    -- a Def has its Name
+    module _ (e : kind_of part ≡ 6) where
+      d_name : (g : Here part at s m) → Named (below part) (at + 1) g.kids
+      d_name g = named (below part) (at + 1) g.kids g.reads g.valid (g.ok.def (sym g.kind_is ∙ e)).1
+
+      pub d_def_long : 16 ≤ 8 * k
+      d_def_long = let g = p.ghost in omega (arith, (d_name g).long, below_length part g.some g.inside, g.some)
 
     module _ (scope : ℕ) (hs : scope ≡ value_of part) where
       -- a Lambda
@@ -82,7 +91,7 @@ module _ {part : List ℕ} {at : ℕ} {s : State} {m : Mem} (p : PreHere part at
           ghost = d-lambda-ghost p.ghost;
         }
 
-        pub d_lambda : {r : State} {m' : Mem} → FunctionDone (take (8 * k - 8) (drop 8 part)) (at + 1) scope s m r m' → HereDone part at s m r m'
+        pub d_lambda : {r : Result State Full} {m' : Mem} → FunctionDone (take (8 * k - 8) (drop 8 part)) (at + 1) scope s m r m' → HereDone part at s m r m'
         d_lambda {r} {m'} d = record {
           right = λ g.
               let q = here_lambda g.F.names g.k g.v g.kids (g.tbl, g.st) scope (sym g.kind_is ∙ e) (hs ∙ g.value_is) in
@@ -91,17 +100,11 @@ module _ {part : List ℕ} {at : ℕ} {s : State} {m : Mem} (p : PreHere part at
 
       -- a Def
       module _ (e : kind_of part ≡ 6) where
-        d_name : (g : Here part at s m) → Named (below part) (at + 1) g.kids
-        d_name g = named (below part) (at + 1) g.kids g.reads g.valid (g.ok.def (sym g.kind_is ∙ e)).1
-
-        pub d_def_long : 16 ≤ 8 * k
-        d_def_long = let g = p.ghost in omega (arith, (d_name g).long, below_length part g.some g.inside, g.some)
-
         d_number : at + 1 + 1 ≡ at + 2
         d_number = omega arith
 
         abbrev d-def-ghost : Here part at s m → Function (take (8 * k - 16) (drop 16 part)) (at + 2) scope s m
-        d-def-ghost g = let z = hs ∙ g.value_is in let o = sym g.kind_is ∙ e in let q = d_name g in record {
+        d-def-ghost g = let z = hs ∙ g.value_is in let o = sym g.kind_is ∙ e in let q = d_name e g in record {
           F = g.F;
           tbl = g.tbl;
           ps = g.ps;
@@ -118,14 +121,14 @@ module _ {part : List ℕ} {at : ℕ} {s : State} {m : Mem} (p : PreHere part at
         d_def_pre = record {
           long = p.long;
           below = omega arith;
-          within = omega (arith, p.within, d_long, d_def_long, part_length part 16 (8 * k - 16) (omega (arith, d_long, d_def_long)));
+          within = omega (arith, p.within, d_long, d_def_long e, part_length part 16 (8 * k - 16) (omega (arith, d_long, d_def_long e)));
           ghost = d-def-ghost p.ghost;
         }
 
-        pub d_def : {r : State} {m' : Mem} → FunctionDone (take (8 * k - 16) (drop 16 part)) (at + 2) scope s m r m' → HereDone part at s m r m'
+        pub d_def : {r : Result State Full} {m' : Mem} → FunctionDone (take (8 * k - 16) (drop 16 part)) (at + 2) scope s m r m' → HereDone part at s m r m'
         d_def {r} {m'} d = record {
           right = λ g.
-              let n = d_name g in
+              let n = d_name e g in
               let q = here_def g.F.names g.k g.v g.kids (g.tbl, g.st) scope (at + 1) (value_of (below part)) n.rest (sym g.kind_is ∙ e) (hs ∙ g.value_is) n.is in
               rw (q.0, q.1) (d.right (d-def-ghost g));
         }

@@ -1,9 +1,5 @@
 -- A function's or a comprehension's block, from the relation before it to the relation after it.
-use Prim.Native.Nat.{ℕ, ◌<◌}
-use mathlib.Core.Path.{◌≡◌, refl, sym, ◌∙◌}
-use mathlib.Core.Bool.{true, false, true≢false}
-use mathlib.Core.List.{List, []}
-use lib.ListN.{length}
+use Rattle.std.specs.Prelude.{ℕ, ◌<◌, ◌≡◌, refl, true, List, [], length, Result, Ok, Err}
 use Rattle.lexical.specs.Tree.{Forest}
 use Rattle.lexical.specs.Binders as bind
 use Rattle.lexical.specs.Binders.{Target, collect}
@@ -11,6 +7,7 @@ use Rattle.lexical.specs.State.{Binding, St}
 use Rattle.lexical.specs.Block.{block}
 use Rattle.nodefile.specs.Reads.{Reads}
 use Rattle.store.specs.declared.ids.State.{State}
+use Rattle.store.specs.declared.ids.Full.{Full}
 use Rattle.store.specs.declared.ids.Block.{Block}
 use Rattle.store.specs.declared.ids.Marks.{Marks}
 use Rattle.store.specs.Sections.{Mem}
@@ -24,11 +21,8 @@ use Rattle.target.specs.Whole.{block-range, block-is, block_none, opens, closes}
 use Rattle.collect.specs.Cycle.{Ghost, Done}
 
 -- where a list is full it stays so
-pub full_block : {W : World} {env : List Binding} {ss : List ℕ} {st : St} {s : State} {m : Mem} (k : ℕ) (ts : List Target) → R W env ss st s m → s.full ≡ true → R W env ss (block k ts st).1 s m
-full_block {st = st} k ts r e = record {
-  over = λ f. rw (block-is k ts st) (over_more (local_block k st) [] ts (rw (block_none k st) (r.over f)));
-  rel = λ f. absurd (true≢false (sym e ∙ f));
-}
+pub full_block : {W : World} {env : List Binding} {ss : List ℕ} {st : St} {e : Full} {m : Mem} (k : ℕ) (ts : List Target) → R W env ss st (Err e) m → R W env ss (block k ts st).1 (Err e) m
+full_block {st = st} k ts r = record { over = rw (block-is k ts st) (over_more (local_block k st) [] ts (rw (block_none k st) r.over)); rel = tt }
 
 -- the block that code is told of
 abbrev pub block_of : ℕ → ℕ → Block
@@ -39,9 +33,9 @@ unfolding local_block
 block-told n k e r = record { scope_is = e; first-is = r.image.bindings_are; local_is = refl }
 
 module _ {W : World} {env : List Binding} {ss : List ℕ} {st : St} {s : State} {m : Mem} {part : List ℕ} {at : ℕ}
-    (n k : ℕ) (e : n ≡ k) (small : k < 256) (free : s.full ≡ false) (r : R W env ss st s m) (f : Forest) (reads : Reads part at f) (valid : Valid f) where
+    (n k : ℕ) (e : n ≡ k) (small : k < 256) (r : R W env ss st (Ok s) m) (f : Forest) (reads : Reads part at f) (valid : Valid f) where
   -- it begins
-  abbrev pub block-ghost : Ghost part at (block_of n s.bindings) s m
+  abbrev pub block-ghost : Ghost part at (block_of n s.bindings) (Ok s) m
   block-ghost = record {
     W = W;
     env = env;
@@ -51,12 +45,12 @@ module _ {W : World} {env : List Binding} {ss : List ℕ} {st : St} {s : State} 
     f = f;
     reads = reads;
     valid = valid;
-    is = block-told n k e (r.rel free);
+    is = block-told n k e r.rel;
     rel = opens k st small r;
   }
 
   -- and ends
-  pub block-done : {marks : Marks} {r' : State} {m' : Mem} (mk : bind.Marks) → marks_of marks ≡ mk → Done part at (block_of n s.bindings) marks s m r' m' → R W env ss (block k (collect W.F.names mk f) st).1 r' m'
+  pub block-done : {marks : Marks} {r' : Result State Full} {m' : Mem} (mk : bind.Marks) → marks_of marks ≡ mk → Done part at (block_of n s.bindings) marks (Ok s) m r' m' → R W env ss (block k (collect W.F.names mk f) st).1 r' m'
   block-done {marks} {r'} {m'} mk q d = closes k st (collect W.F.names mk f) (rw q at (d.right block-ghost))
 
 -- its bindings are those from the first on

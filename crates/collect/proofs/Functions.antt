@@ -1,10 +1,6 @@
 -- The steps of `collect_defines_in_def`: a function's parameter variables are counted, its block is collected, and its stretch of the bindings kept.
-use Prim.Native.Nat.{ℕ, ◌+◌, ◌*◌, ◌<◌, ◌≤◌}
-use mathlib.Core.Path.{◌≡◌, refl, sym, ap, ◌∙◌}
-use mathlib.Core.Bool.{true, false, true≢false}
-use mathlib.Core.List.{List, [], ◌∷◌, ◌++◌}
-use native.Mathlib.Omega.{arith}
-use lib.ListN.{length, get_or, set, length-set}
+use Rattle.std.specs.Prelude.{ℕ, ◌+◌, ◌*◌, ◌≤◌, ◌≡◌, refl, List, [], ◌∷◌, ◌++◌, length, get_or, set, Result, Ok, Err, IsErr}
+use Rattle.std.proofs.Common.{sym, ap, ◌∙◌, arith, length-set}
 use Rattle.lexical.specs.Lists.{first, first_here, first_other, eqb_self, eqb-not}
 use Rattle.lexical.specs.Tree.{Forest, params}
 use Rattle.lexical.specs.Binders.{Target, collect, unmarked}
@@ -15,11 +11,12 @@ use Rattle.lexical.specs.Records.{params_of}
 use Rattle.nodefile.specs.Reads.{Reads}
 use Rattle.store.specs.Words.{params_word}
 use Rattle.store.specs.declared.ids.State.{State}
+use Rattle.store.specs.declared.ids.Full.{Full}
 use Rattle.store.specs.declared.ids.Marks.{Marks}
 use Rattle.store.specs.Sections.{Mem, mem}
 use Rattle.store.specs.Rel.{World, R}
 use Rattle.target.specs.Target.{marks_of}
-use Rattle.store.proofs.Laws.Full.{was_full}
+use Rattle.store.proofs.Laws.Full.{was_full, stopped}
 use Rattle.collect.specs.Cycle.{Ghost, Pre, Done}
 use Rattle.collect.specs.Declare.{plain_marks, counted, world_of, Unmet, Function, PreFunction, FunctionDone}
 use Rattle.collect.proofs.Entered.{full_block, block_of, block-ghost, block-done, block_new}
@@ -51,76 +48,65 @@ marks_plain {a} e = ap marks_of e
 
 -- ---- the steps
 
-module _ {part : List ℕ} {at scope : ℕ} {s : State} {m : Mem} where
-  abbrev targets_of : Function part at scope s m → List Target
+module _ {part : List ℕ} {at scope : ℕ} {m : Mem} where
+  abbrev targets_of : {s : Result State Full} → Function part at scope s m → List Target
   targets_of g = collect g.F.names unmarked g.f
 
-  abbrev after : Function part at scope s m → St
+  pub f_stop : {e : Full} {r : Result State Full} → IsErr r → FunctionDone part at scope (Err e) m r m
+  unfolding declare_fn
+  f_stop {e} h = rw (stopped e h) (record { right = λ g. was_full (full_block scope (targets_of g) g.rel) })
+
+module _ {part : List ℕ} {at scope : ℕ} {s : State} {m : Mem} (p : PreFunction part at scope (Ok s) m) where
+  abbrev after : Function part at scope (Ok s) m → St
   after g = (block scope (targets_of g) g.st).1
 
-  pub f_stop : s.full ≡ true → FunctionDone part at scope s m s m
-  unfolding declare_fn
-  f_stop e = record { right = λ g. was_full e (full_block scope (targets_of g) g.rel e) }
-
-module _ {part : List ℕ} {at scope : ℕ} {s : State} {m : Mem} (p : PreFunction part at scope s m) (free : s.full ≡ false) where
   -- the parameters are counted
-  module _ (n : ℕ) (few : 8 * n ≤ length part) (count : (at : ℕ) (f : Forest) → Reads part at f → n ≡ params f) where
-    pub f_few : n < 2048
-    f_few = omega (arith, p.within, p.below)
-
+  module _ (n : ℕ) (few : 8 * n ≤ length part) (count : (at : ℕ) (f : Forest) → Reads part at f → n ≡ params f) (long : length m.w ≡ 12544) where
     module _ {w : List ℕ} (put : w ≡ set m.w (12288 + scope) (params_word n (get_or m.w (12288 + scope) 0))) where
       abbrev f-mem : Mem
       f-mem = mem m.binds w m.t
 
-      abbrev f-world : Function part at scope s m → World
+      abbrev f-world : Function part at scope (Ok s) m → World
       f-world g = world_of g.F g.tbl (g.ps ++ ((scope, params g.f) ∷ []))
 
-      f_params : (g : Function part at scope s m) → R (f-world g) [] (0 ∷ []) g.st s f-mem
-      f_params g =
-          let e = count at g.f g.reads in
-          record {
-            over = λ f. g.rel.over f;
-            rel = λ f. rw put (rel_params (g.rel.rel f) p.long.w (f-world g).P scope n g.small (omega (arith, f_few)) (params_here scope g.tbl g.ps (params g.f) g.unmet ∙ sym e) (params_others scope g.tbl g.ps (params g.f)));
-          }
-
-      abbrev f-ghost : Function part at scope s m → Ghost part at (block_of scope s.bindings) s f-mem
-      f-ghost g = block-ghost scope scope refl g.small free (f_params g) g.f g.reads g.valid
-
-      pub f_pre : Pre part at (block_of scope s.bindings) s f-mem
-      f_pre = record {
-        long = record { binds = p.long.binds; w = ap length put ∙ length-set m.w (12288 + scope) (params_word n (get_or m.w (12288 + scope) 0)) ∙ p.long.w; t = p.long.t };
-        within = p.within;
-        ghost = f-ghost p.ghost;
+      f_params : (g : Function part at scope (Ok s) m) → R (f-world g) [] (0 ∷ []) g.st (Ok s) f-mem
+      f_params g = record {
+        over = tt;
+        rel = rw put (rel_params g.rel.rel long (f-world g).P scope n g.small (omega (arith, p.within)) (params_here scope g.tbl g.ps (params g.f) g.unmet ∙ sym (count at g.f g.reads)) (params_others scope g.tbl g.ps (params g.f)));
       }
 
-      -- the block is collected
-      module _ {marks : Marks} (mk : marks ≡ plain_marks) {r : State} {m₁ : Mem} (d : Done part at (block_of scope s.bindings) marks s f-mem r m₁) where
-        f_block : (g : Function part at scope s m) → R (f-world g) [] (0 ∷ []) (after g) r m₁
-        f_block g = block-done scope scope refl g.small free (f_params g) g.f g.reads g.valid unmarked (marks_plain mk) d
+      abbrev f-ghost : Function part at scope (Ok s) m → Ghost part at (block_of scope s.bindings) (Ok s) f-mem
+      f-ghost g = block-ghost scope scope refl g.small (f_params g) g.f g.reads g.valid
 
-        pub f_full : r.full ≡ true → FunctionDone part at scope s m r m₁
+      pub f_pre : Pre part at (block_of scope s.bindings) (Ok s) f-mem
+      f_pre = record { long = record { binds = p.long.binds }; within = p.within; ghost = f-ghost p.ghost }
+
+      -- the block is collected
+      module _ {marks : Marks} (mk : marks ≡ plain_marks) {m₁ : Mem} where
+        f_block : {r : Result State Full} → Done part at (block_of scope s.bindings) marks (Ok s) f-mem r m₁ → (g : Function part at scope (Ok s) m) → R (f-world g) [] (0 ∷ []) (after g) r m₁
+        f_block d g = block-done scope scope refl g.small (f_params g) g.f g.reads g.valid unmarked (marks_plain mk) d
+
+        pub f_full : {e : Full} {r : Result State Full} → Done part at (block_of scope s.bindings) marks (Ok s) f-mem (Err e) m₁ → IsErr r → FunctionDone part at scope (Ok s) m r m₁
         unfolding declare_fn
-        f_full f = record { right = λ g. was_full f (f_block g) }
+        f_full {e} d h = rw (stopped e h) (record { right = λ g. was_full (f_block d g) })
 
         -- its stretch of the bindings is kept
-        module _ (f : r.full ≡ false) where
+        module _ {u : State} (d : Done part at (block_of scope s.bindings) marks (Ok s) f-mem (Ok u) m₁) where
           pub f_first : s.bindings ≤ 2304
-          f_first = let q = (p.ghost.rel.rel free).image in omega (arith, q.bindings_are, q.made.few)
+          f_first = let q = p.ghost.rel.rel.image in omega (arith, q.bindings_are, q.made.few)
 
-          pub f_last : r.bindings ≤ 2304
-          f_last = let q = ((f_block p.ghost).rel f).image in omega (arith, q.bindings_are, q.made.few)
+          pub f_last : u.bindings ≤ 2304
+          f_last = let q = (f_block d p.ghost).rel.image in omega (arith, q.bindings_are, q.made.few)
 
-          pub f_done : length m₁.t ≡ 20864 → {t : List ℕ} → t ≡ set (set m₁.t (12032 + scope) s.bindings) (12288 + scope) r.bindings → FunctionDone part at scope s m r (mem m₁.binds m₁.w t)
+          pub f_done : {t : List ℕ} → length t ≡ 20864 → t ≡ set (set m₁.t (12032 + scope) s.bindings) (12288 + scope) u.bindings → FunctionDone part at scope (Ok s) m (Ok u) (mem m₁.binds m₁.w t)
           unfolding declare_fn
-          f_done l {t} e = record {
+          f_done {t} l e = record {
             right = λ g.
-                let q = (f_block g).rel f in
+                let q = (f_block d g).rel in
+                let long : length m₁.t ≡ 20864 = simp length-set at (sym (ap length e) ∙ l) in
                 let bs = (block scope (targets_of g) g.st).0 in
                 let D = rows (g.tbl ++ (record { scope = scope; names = bs } ∷ [])) in
                 let here = rows_here scope g.tbl g.ps bs g.unmet in
-                let range = block_new scope (targets_of g) g.st s.bindings r.bindings (g.rel.rel free).image.bindings_are q.image.bindings_are in
-                record {
-                  over = λ x. absurd (true≢false (sym x ∙ f));
-                  rel = λ x. rw e (rel_range q l D scope s.bindings r.bindings g.small (rw here range) (rows_others scope g.tbl g.ps bs));
-                };
+                let range = block_new scope (targets_of g) g.st s.bindings u.bindings g.rel.rel.image.bindings_are q.image.bindings_are in
+                record { over = tt; rel = rw e (rel_range q long D scope s.bindings u.bindings g.small (rw here range) (rows_others scope g.tbl g.ps bs)) };
           }

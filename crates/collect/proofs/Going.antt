@@ -1,5 +1,5 @@
 -- What is left of the nodes in walk two: forests that stand one after the other, none of whose functions has a row yet; and one node of them.
-use Prim.Native.Nat.{ℕ, ◌+◌, ◌<◌}
+use Rattle.std.specs.Prelude.{ℕ, ◌+◌, ◌*◌, ◌<◌, Result}
 use mathlib.Core.Path.{◌≡◌, refl, sym, ap, ◌∙◌, subst}
 use mathlib.Core.Logic.{inl}
 use mathlib.Core.Bool.{Bool, true, false, cond}
@@ -16,6 +16,7 @@ use Rattle.lexical.specs.Module.{File}
 use Rattle.lexical.specs.State.{Row, St}
 use Rattle.lexical.specs.Second.{declare_fn, declare_here, declare, keyed, second}
 use Rattle.store.specs.declared.ids.State.{State}
+use Rattle.store.specs.declared.ids.Full.{Full}
 use Rattle.store.specs.Sections.{Mem}
 use Rattle.store.specs.Rel.{R}
 use Rattle.nodefile.specs.Valid.{NodeOk, Valid}
@@ -37,11 +38,11 @@ unmet_more w v kids ts tbl st ps u h q = go (is_fn w) h
 
 -- ---- what is left
 
-pub record Going (F : File) (list : List ℕ) (s : State) (n i : ℕ) (m : Mem) (todo : List Forest) : Type 0 where
+pub record Going (F : File) (list : List ℕ) (s : Result State Full) (n : ℕ) (m : Mem) (todo : List Forest) : Type 0 where
   pub tbl : List Row
   pub ps : List (ℕ × ℕ)
   pub st : St
-  pub stand : Stand (drop i list) n todo
+  pub stand : Stand (drop (8 * n) list) n todo
   pub valid : ValidAll todo
   pub apart : Distinct (scopes_all todo)
   pub unmet : (u : ℕ) → In u (scopes_all todo) → Unmet u tbl ps
@@ -50,18 +51,18 @@ pub record Going (F : File) (list : List ℕ) (s : State) (n i : ℕ) (m : Mem) 
   pub counts : ps ++ params_all todo ≡ params_in F.root
 
 -- forests that begin with a node
-pub record Next (F : File) (list : List ℕ) (s : State) (n i : ℕ) (m : Mem) : Type 0 where
+pub record Next (F : File) (list : List ℕ) (s : Result State Full) (n : ℕ) (m : Mem) : Type 0 where
   pub a : ℕ
   pub k : ℕ
   pub v : ℕ
   pub kids : Forest
   pub rest : Forest
   pub more : List Forest
-  pub going : Going F list s n i m (node a k v kids rest ∷ more)
+  pub going : Going F list s n m (node a k v kids rest ∷ more)
 
-pub next : {F : File} {list : List ℕ} {s : State} {n i : ℕ} {m : Mem} (todo : List Forest) → i < length list → Going F list s n i m todo → Next F list s n i m
+pub next : {F : File} {list : List ℕ} {s : Result State Full} {n : ℕ} {m : Mem} (todo : List Forest) → 8 * n < length list → Going F list s n m todo → Next F list s n m
 unfolding declare params_in scopes_in listed
-next {list = list} {i = i} [] h g = absurd (omega (arith, ap length g.stand, length-drop i list))
+next {list = list} {n = n} [] h g = absurd (omega (arith, ap length g.stand, length-drop (8 * n) list))
 next {n = n} (nil ∷ fs) h g =
     next fs h
     (record {
@@ -80,7 +81,7 @@ next (node a k v kids rest ∷ fs) h g = record { a = a; k = k; v = v; kids = ki
 
 -- ---- one node
 
-module _ {F : File} {list : List ℕ} {s : State} {n i : ℕ} {m : Mem} (x : Next F list s n i m) where
+module _ {F : File} {list : List ℕ} {s : Result State Full} {n : ℕ} {m : Mem} (x : Next F list s n m) where
   abbrev n-own : List ℕ
   n-own = own_scope (way x.k) x.v
 
@@ -112,7 +113,7 @@ module _ {F : File} {list : List ℕ} {s : State} {n i : ℕ} {m : Mem} (x : Nex
   unfolding Valid
   n_valid = let w = x.going.valid.0 in (rw x.going.stand.0.number at w.0, w.1, w.2)
 
-  pub n_here : Here (drop i list) n s m
+  pub n_here : Here (drop (8 * n) list) n s m
   n_here =
       let g = x.going in
       let r = g.stand.0 in
@@ -124,11 +125,11 @@ module _ {F : File} {list : List ℕ} {s : State} {n i : ℕ} {m : Mem} (x : Nex
         k = x.k;
         v = x.v;
         kids = x.kids;
-        kind_is = first_kind (drop i list) n x.a x.k x.v x.kids x.rest r;
-        value_is = first_value (drop i list) n x.a x.k x.v x.kids x.rest r;
-        some = omega (arith, first_size (drop i list) n x.a x.k x.v x.kids x.rest r);
-        inside = first_inside (drop i list) n x.a x.k x.v x.kids x.rest r;
-        reads = first_under (drop i list) n x.a x.k x.v x.kids x.rest r;
+        kind_is = first_kind (drop (8 * n) list) n x.a x.k x.v x.kids x.rest r;
+        value_is = first_value (drop (8 * n) list) n x.a x.k x.v x.kids x.rest r;
+        some = omega (arith, first_size (drop (8 * n) list) n x.a x.k x.v x.kids x.rest r);
+        inside = first_inside (drop (8 * n) list) n x.a x.k x.v x.kids x.rest r;
+        reads = first_under (drop (8 * n) list) n x.a x.k x.v x.kids x.rest r;
         ok = n_valid.0;
         valid = n_valid.1;
         def_unmet = n_def;
@@ -136,17 +137,18 @@ module _ {F : File} {list : List ℕ} {s : State} {n i : ℕ} {m : Mem} (x : Nex
         rel = g.rel;
       }
 
-  pub n_more : {r : State} {m' : Mem} → HereDone (drop i list) n s m r m' → Going F list r (n + 1) (i + 8) m' (x.kids ∷ x.rest ∷ x.more)
+  pub n_more : {r : Result State Full} {m' : Mem} → HereDone (drop (8 * n) list) n s m r m' → Going F list r (n + 1) m' (x.kids ∷ x.rest ∷ x.more)
   unfolding declare params_in listed n_here
   n_more {r} {m'} d =
       let g = x.going in
       let own = own_params (way x.k) x.v x.kids in
+      let z : 8 * n + 8 ≡ 8 * (n + 1) = omega arith in
       let y = declare_here (way x.k) x.v (targets F.names x.k x.kids) (g.tbl, g.st) in
       record {
         tbl = y.0;
         ps = g.ps ++ own;
         st = y.1;
-        stand = rw (drop-drop 8 i list) at (stand_more (drop i list) n x.a x.k x.v x.kids x.rest g.stand.0 x.more g.stand.1);
+        stand = rw (drop-drop 8 (8 * n) list, z) at (stand_more (drop (8 * n) list) n x.a x.k x.v x.kids x.rest g.stand.0 x.more g.stand.1);
         valid = (n_valid.1, (n_valid.2, g.valid.1));
         apart = distinct_right n-own n-left n_apart;
         unmet = λ u h. unmet_more (way x.k) x.v x.kids _ g.tbl g.st g.ps u (λ o. disjoint u n-own n-left n_apart o h) (n_unmet u (in_right u n-own n-left h));

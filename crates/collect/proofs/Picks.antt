@@ -1,8 +1,7 @@
--- How a kind is collected, by the tests that code makes: gone through, or shut.
-use Prim.Native.Nat.{ℕ, zero, suc, ◌+◌, ◌≤◌, ◌<◌}
-use mathlib.Core.Path.{◌≡◌, refl, subst}
-use native.Mathlib.Omega.{arith}
-use native.Mathlib.Decide.{dec_lt}
+-- How a kind is collected, by the kinds that code tells apart: gone through, or shut.
+use Rattle.std.specs.Prelude.{ℕ, zero, suc, ◌+◌, ◌≤◌, ◌<◌, ◌≡◌, ◌⊎◌, refl}
+use Rattle.std.proofs.Common.{subst, arith, inl, inr}
+use Rattle.std.proofs.Math.Decide.{dec_lt}
 use Rattle.lexical.specs.Tree.{through, shut, pick}
 
 -- a law of the n numbers from a on, and of one of them
@@ -18,22 +17,15 @@ each_at P (suc n) a h k l m =
       | no z ↦ subst P (omega arith) h.0
     ]
 
-pub statement_through : (k : ℕ) → k < 5 → pick k ≡ through
+-- statements without a mark of their own, Tuples and Places, clauses
+pub through_kind : (k : ℕ) → (k ≤ 4) ⊎ ((9 ≤ k) × (k ≤ 10)) ⊎ ((15 ≤ k) × (k ≤ 16)) → pick k ≡ through
 unfolding pick
-statement_through k h = each_at (λ j. pick j ≡ through) 5 0 (refl, (refl, (refl, (refl, (refl, tt))))) k (omega arith) (omega arith)
+through_kind k (inl h) = each_at (λ j. pick j ≡ through) 5 0 (refl, (refl, (refl, (refl, (refl, tt))))) k (omega arith) (omega arith)
+through_kind k (inr (inl h)) = each_at (λ j. pick j ≡ through) 2 9 (refl, (refl, tt)) k (omega arith) (omega arith)
+through_kind k (inr (inr h)) = each_at (λ j. pick j ≡ through) 2 15 (refl, (refl, tt)) k (omega arith) (omega arith)
 
-pub target_through : (k : ℕ) → 8 < k → k < 11 → pick k ≡ through
+-- expressions and Types
+pub shut_kind : (k : ℕ) → ((11 ≤ k) × (k ≤ 14)) ⊎ (k ≡ 18) → pick k ≡ shut
 unfolding pick
-target_through k l h = each_at (λ j. pick j ≡ through) 2 9 (refl, (refl, tt)) k (omega arith) (omega arith)
-
-pub clause_through : (k : ℕ) → 14 < k → k < 17 → pick k ≡ through
-unfolding pick
-clause_through k l h = each_at (λ j. pick j ≡ through) 2 15 (refl, (refl, tt)) k (omega arith) (omega arith)
-
-pub expression_shut : (k : ℕ) → 10 < k → k < 15 → pick k ≡ shut
-unfolding pick
-expression_shut k l h = each_at (λ j. pick j ≡ shut) 4 11 (refl, (refl, (refl, (refl, tt)))) k (omega arith) (omega arith)
-
-pub type_shut : (k : ℕ) → k ≡ 18 → pick k ≡ shut
-unfolding pick
-type_shut k e = rw e refl
+shut_kind k (inl h) = each_at (λ j. pick j ≡ shut) 4 11 (refl, (refl, (refl, (refl, tt)))) k (omega arith) (omega arith)
+shut_kind k (inr e) = rw e refl

@@ -1,9 +1,9 @@
 -- The blocks themselves: the module, each Def and Lambda in node order (walk two), and a comprehension.
-use Rattle.std.specs.Prelude.{ℕ, ◌+◌, ◌*◌, ◌<◌, ◌≤◌, ◌≡◌, Bool, false, List, [], ◌∷◌, ◌++◌, eqb, length}
+use Rattle.std.specs.Prelude.{ℕ, ◌+◌, ◌*◌, ◌<◌, ◌≤◌, ◌≡◌, Bool, false, List, [], ◌∷◌, ◌++◌, eqb, length, Result}
 use Rattle.std.proofs.Math.Option.{none}
 use Rattle.lexical.specs.Lists.{first}
 use Rattle.lexical.specs.Places.{Distinct}
-use Rattle.lexical.specs.Tree.{Forest, Way, way, is_fn, when, after, top, params, params_in, scopes_in}
+use Rattle.lexical.specs.Tree.{Forest, Way, way, is_fn, when, top, params, params_in, scopes_in}
 use Rattle.lexical.specs.Binders.{collect, unmarked, looping, targets}
 use Rattle.lexical.specs.Module.{File, module_vars}
 use Rattle.lexical.specs.State.{Binding, Row, St}
@@ -14,6 +14,7 @@ use Rattle.lexical.specs.Records.{params_of}
 use Rattle.nodefile.specs.Node.{size_of, kind_of, value_of, below}
 use Rattle.nodefile.specs.Reads.{Reads}
 use Rattle.store.specs.declared.ids.State.{State}
+use Rattle.store.specs.declared.ids.Full.{Full}
 use Rattle.store.specs.declared.ids.Block.{Block}
 use Rattle.store.specs.declared.ids.Marks.{Marks}
 use Rattle.store.specs.Sections.{Mem, Long}
@@ -45,7 +46,7 @@ pub record Unmet (s : ℕ) (tbl : List Row) (ps : List (ℕ × ℕ)) : Type 0 wh
   pub parameters : first (counted s) ps ≡ none
 
 -- a function: the part holds its Params and what follows them
-pub record Function (part : List ℕ) (at scope : ℕ) (s : State) (m : Mem) : Type 0 where
+pub record Function (part : List ℕ) (at scope : ℕ) (s : Result State Full) (m : Mem) : Type 0 where
   pub F : File
   pub tbl : List Row
   pub ps : List (ℕ × ℕ)
@@ -57,19 +58,19 @@ pub record Function (part : List ℕ) (at scope : ℕ) (s : State) (m : Mem) : T
   pub unmet : Unmet scope tbl ps
   pub rel : R (world_of F tbl ps) [] (0 ∷ []) st s m
 
-pub record PreFunction (part : List ℕ) (at scope : ℕ) (s : State) (m : Mem) : Type 0 where
+pub record PreFunction (part : List ℕ) (at scope : ℕ) (s : Result State Full) (m : Mem) : Type 0 where
   pub long : Long m
   pub below : 0 < at
   pub within : 8 * at + length part ≤ 16384
   pub ghost : Function part at scope s m
 
-pub record FunctionDone (part : List ℕ) (at scope : ℕ) (s : State) (m : Mem) (r : State) (m' : Mem) : Type 0 where
+pub record FunctionDone (part : List ℕ) (at scope : ℕ) (s : Result State Full) (m : Mem) (r : Result State Full) (m' : Mem) : Type 0 where
   pub right : (g : Function part at scope s m)
       → let x = declare_fn scope (collect g.F.names unmarked g.f) (g.tbl, g.st) in
       R (world_of g.F x.0 (g.ps ++ ((scope, params g.f) ∷ []))) [] (0 ∷ []) x.1 r m'
 
 -- the node that a part starts with
-pub record Here (part : List ℕ) (at : ℕ) (s : State) (m : Mem) : Type 0 where
+pub record Here (part : List ℕ) (at : ℕ) (s : Result State Full) (m : Mem) : Type 0 where
   pub F : File
   pub tbl : List Row
   pub ps : List (ℕ × ℕ)
@@ -88,34 +89,34 @@ pub record Here (part : List ℕ) (at : ℕ) (s : State) (m : Mem) : Type 0 wher
   pub lambda_unmet : k ≡ 12 → Unmet v tbl ps
   pub rel : R (world_of F tbl ps) [] (0 ∷ []) st s m
 
-pub record PreHere (part : List ℕ) (at : ℕ) (s : State) (m : Mem) : Type 0 where
+pub record PreHere (part : List ℕ) (at : ℕ) (s : Result State Full) (m : Mem) : Type 0 where
   pub long : Long m
   pub within : 8 * at + length part ≤ 16384
   pub ghost : Here part at s m
 
-pub record HereDone (part : List ℕ) (at : ℕ) (s : State) (m : Mem) (r : State) (m' : Mem) : Type 0 where
+pub record HereDone (part : List ℕ) (at : ℕ) (s : Result State Full) (m : Mem) (r : Result State Full) (m' : Mem) : Type 0 where
   pub right : (g : Here part at s m)
       → let x = declare_here (way g.k) g.v (targets g.F.names g.k g.kids) (g.tbl, g.st) in
       R (world_of g.F x.0 (g.ps ++ own_params (way g.k) g.v g.kids)) [] (0 ∷ []) x.1 r m'
 
 -- the whole list of nodes
-pub record AllNodes (list : List ℕ) (s : State) (m : Mem) : Type 0 where
+pub record AllNodes (list : List ℕ) (s : Result State Full) (m : Mem) : Type 0 where
   pub F : File
   pub reads : Reads list 0 F.root
   pub valid : Valid F.root
   pub apart : Distinct (scopes_in F.root)
   pub rel : R (world_of F [] []) [] (0 ∷ []) (start F) s m
 
-pub record PreAll (list : List ℕ) (s : State) (m : Mem) : Type 0 where
+pub record PreAll (list : List ℕ) (s : Result State Full) (m : Mem) : Type 0 where
   pub long : Long m
   pub within : length list ≤ 16384
   pub ghost : AllNodes list s m
 
-pub record AllDone (list : List ℕ) (s : State) (m : Mem) (r : State) (m' : Mem) : Type 0 where
+pub record AllDone (list : List ℕ) (s : Result State Full) (m : Mem) (r : Result State Full) (m' : Mem) : Type 0 where
   pub right : (g : AllNodes list s m) → R (world_of g.F (second g.F).0 (params_in g.F.root)) [] (0 ∷ []) (second g.F).1 r m'
 
 -- a comprehension: the part holds its children
-pub record Compr (part : List ℕ) (at : ℕ) (s : State) (m : Mem) : Type 0 where
+pub record Compr (part : List ℕ) (at : ℕ) (s : Result State Full) (m : Mem) : Type 0 where
   pub W : World
   pub env : List Binding
   pub ss : List ℕ
@@ -125,17 +126,13 @@ pub record Compr (part : List ℕ) (at : ℕ) (s : State) (m : Mem) : Type 0 whe
   pub valid : Valid f
   pub rel : R W env ss st s m
 
-pub record PreCompr (part : List ℕ) (at : ℕ) (s : State) (m : Mem) : Type 0 where
+pub record PreCompr (part : List ℕ) (at : ℕ) (s : Result State Full) (m : Mem) : Type 0 where
   pub long : Long m
   pub within : 8 * at + length part ≤ 16384
   pub ghost : Compr part at s m
 
 -- its variables are in reach; their numbers start where the bindings ended
-pub record ComprDone (part : List ℕ) (at : ℕ) (s : State) (m : Mem) (r : State) (m' : Mem) : Type 0 where
+pub record ComprDone (part : List ℕ) (at : ℕ) (s : Result State Full) (m : Mem) (r : Result State Full) (m' : Mem) : Type 0 where
   pub right : (g : Compr part at s m)
       → let x = block (top g.ss) (collect g.W.F.names looping g.f) g.st in
       R g.W (x.0 ++ g.env) g.ss x.1 r m'
-
--- r counts the first node of f: 1 if it is a Param with a Name
-unfoldable pub Params : Forest → ℕ → Type 0
-Params f r = r + params (after f) ≡ params f

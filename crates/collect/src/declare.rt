@@ -1,15 +1,15 @@
-// The blocks: the module, each Def and Lambda in node order, and a comprehension.
+// The blocks: the module, each Def and Lambda in node order, and a comprehension. Nodes take unequal room: walks go by what is left.
 ghost use Rattle.std.specs.Prelude.{◌≡◌, ℕ, ◌*◌, ◌≤◌, length};
 ghost use Rattle.lexical.specs.Tree.{Forest, params};
 ghost use Rattle.nodefile.specs.Reads.{Reads};
 ghost use Rattle.store.specs.Sections.{mem, many_nodes};
 ghost use Rattle.collect.specs.Cycle.{Pre1, Done};
-ghost use Rattle.collect.specs.Declare.{module_is, plain_marks, PreFunction, FunctionDone, PreHere, HereDone, PreAll, AllDone, PreCompr, ComprDone, Params};
+ghost use Rattle.collect.specs.Declare.{module_is, plain_marks, PreFunction, FunctionDone, PreHere, HereDone, PreAll, AllDone, PreCompr, ComprDone};
 
 use crate::walk;
 use answer::ScopeId;
-use nodefile::kinds;
-use store::{Block, Marks, State};
+use nodefile::kinds::{self, Kind};
+use store::{Block, Marks, Table, Walk, Words};
 
 fn unmarked() -> Marks
     ensures { result ≡ plain_marks }
@@ -24,11 +24,11 @@ fn unmarked() -> Marks
 // Walk one: the module binds the root's targets.
 pub fn collect_module(
     part: &[u8],
-    st: State,
+    st: Walk,
     binds: &mut [u64],
-    w: &mut [u32],
-    t: &mut [u16],
-) -> State
+    w: &mut Words,
+    t: &mut Table,
+) -> Walk
     requires { Pre1 part.now 0 module_is st (mem binds.old w.old t.old) }
     ensures { Done part.now 0 module_is plain_marks st (mem binds.old w.old t.old) result (mem binds.new w.new t.new) }
 {
@@ -40,30 +40,18 @@ pub fn collect_module(
     walk::collect_node(part, 0, block, unmarked(), st, binds, w, t)
 }
 
-// 1 if the node that the part starts with is a Param with a Name, else 0.
-fn named_param(part: &[u8]) -> usize
-    ensures { (result ≤ 1) × ((at : ℕ) (f : Forest) → Reads part.now at f → Params f result) }
-{
-    if nodefile::kind(part) != 17 {
-        return 0;
-    }
-    if nodefile::size(part) < 2 {
-        return 0;
-    }
-    1
-}
-
 // How many of the nodes of a part are Params with a Name.
 fn param_count(part: &[u8]) -> usize
     requires { (length part.now ≤ 8 * many_nodes) × ((at : ℕ) × (f : Forest) × Reads part.now at f) }
     ensures { (8 * result ≤ length part.now) × ((at : ℕ) (f : Forest) → Reads part.now at f → result ≡ params f) }
 {
     let mut n = 0;
-    let mut i = 0;
-    while i < part.len() {
-        let here = &part[i..];
-        n += named_param(here);
-        i += 8 * nodefile::size(here) as usize;
+    let mut rest = part;
+    while !rest.is_empty() {
+        if kinds::is_named_param(rest) {
+            n += 1;
+        }
+        rest = &rest[8 * nodefile::size(rest) as usize..];
     }
     n
 }
@@ -73,76 +61,64 @@ fn collect_defines_in_def(
     part: &[u8],
     at: usize,
     scope: usize,
-    st: State,
+    st: Walk,
     binds: &mut [u64],
-    w: &mut [u32],
-    t: &mut [u16],
-) -> State
+    w: &mut Words,
+    t: &mut Table,
+) -> Walk
     requires { PreFunction part.now at scope st (mem binds.old w.old t.old) }
     ensures { FunctionDone part.now at scope st (mem binds.old w.old t.old) result (mem binds.new w.new t.new) }
 {
-    if st.full {
-        return st;
-    }
+    let st = st?;
     let first = st.bindings;
     let block = Block {
         scope: ScopeId(scope),
-        first: first,
+        first,
         local: true,
     };
     store::set_param_count(w, scope, param_count(part));
-    let s = walk::collect_kids(part, at, block, unmarked(), st, binds, w, t);
-    if s.full {
-        return s;
-    }
+    let s = walk::collect_kids(part, at, block, unmarked(), Ok(st), binds, w, t)?;
     store::put_range(t, scope, first, s.bindings);
-    s
+    Ok(s)
 }
 
 // The node that a part starts with: if it is a Def or a Lambda, its variables.
 fn declare_node(
     part: &[u8],
     at: usize,
-    st: State,
+    st: Walk,
     binds: &mut [u64],
-    w: &mut [u32],
-    t: &mut [u16],
-) -> State
+    w: &mut Words,
+    t: &mut Table,
+) -> Walk
     requires { PreHere part.now at st (mem binds.old w.old t.old) }
     ensures { HereDone part.now at st (mem binds.old w.old t.old) result (mem binds.new w.new t.new) }
 {
-    let k = nodefile::kind(part);
-    if k == kinds::DEF {
-        let e = 8 * nodefile::size(part) as usize;
-        let scope = nodefile::value(part) as usize;
-        return collect_defines_in_def(&part[16..e], at + 2, scope, st, binds, w, t);
-    }
-    if k == kinds::LAMBDA {
-        let e = 8 * nodefile::size(part) as usize;
-        let scope = nodefile::value(part) as usize;
-        return collect_defines_in_def(&part[8..e], at + 1, scope, st, binds, w, t);
-    }
-    st
+    // How many nodes stand before its Params: itself, and a Def's Name.
+    let before = match kinds::of(part) {
+        Some(Kind::Def) => 2,
+        Some(Kind::Lambda) => 1,
+        _ => return st,
+    };
+    let end = 8 * nodefile::size(part) as usize;
+    let scope = nodefile::value(part) as usize;
+    collect_defines_in_def(&part[8 * before..end], at + before, scope, st, binds, w, t)
 }
 
 // Walk two: each Def and Lambda, in node order.
 pub fn collect_defines_recursively(
     list: &[u8],
-    st: State,
+    st: Walk,
     binds: &mut [u64],
-    w: &mut [u32],
-    t: &mut [u16],
-) -> State
+    w: &mut Words,
+    t: &mut Table,
+) -> Walk
     requires { PreAll list.now st (mem binds.old w.old t.old) }
     ensures { AllDone list.now st (mem binds.old w.old t.old) result (mem binds.new w.new t.new) }
 {
     let mut s = st;
-    let mut n = 0;
-    let mut i = 0;
-    while i < list.len() {
-        s = declare_node(&list[i..], n, s, binds, w, t);
-        n += 1;
-        i += 8;
+    for n in 0..list.len() / 8 {
+        s = declare_node(&list[8 * n..], n, s, binds, w, t);
     }
     s
 }
@@ -151,27 +127,26 @@ pub fn collect_defines_recursively(
 pub fn add_compr(
     part: &[u8],
     at: usize,
-    st: State,
+    st: Walk,
     binds: &mut [u64],
-    w: &mut [u32],
-    t: &mut [u16],
-) -> State
+    w: &mut Words,
+    t: &mut Table,
+) -> Walk
     requires { PreCompr part.now at st (mem binds.old w.old t.old) }
     ensures { ComprDone part.now at st (mem binds.old w.old t.old) result (mem binds.new w.new t.new) }
 {
-    if st.full {
-        return st;
-    }
+    let st = st?;
     let first = st.bindings;
     let block = Block {
         scope: ScopeId(store::scope_at_level(t, st.level)),
-        first: first,
+        first,
         local: true,
     };
-    let s = walk::collect_kids(part, at, block, walk::looping(unmarked()), st, binds, w, t);
-    if s.full {
-        return s;
-    }
+    let marks = Marks {
+        in_loop: true,
+        ..unmarked()
+    };
+    let s = walk::collect_kids(part, at, block, marks, Ok(st), binds, w, t)?;
     store::scope_in(binds, t, first, s.bindings);
-    s
+    Ok(s)
 }

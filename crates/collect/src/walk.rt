@@ -1,67 +1,38 @@
 // The targets of some nodes, in order: statements, targets, clauses and parameters call one another. Nothing is bound by an expression or a type.
+// Each of them has its own function, though a clause only goes through its children: document 01 asks for a function for each place of the grammar.
+// `block` is one for a whole walk and `marks` differ from node to node, so the two are not one struct.
+#![tactic(auto, using(crate::proofs::Steps::x_shorter, crate::proofs::Steps::x_kids_pre))]
+
 ghost use Rattle.std.specs.Prelude.{◌≡◌};
 ghost use Rattle.store.specs.Sections.{mem};
-ghost use Rattle.target.specs.Target.{marks_of};
 ghost use Rattle.collect.specs.Cycle.{Pre, Pre1, PreKind, Done};
-ghost use Rattle.lexical.proofs.Laws.Collect.{in_loop, in_load, as_param};
 
-use nodefile::kinds;
-use store::{Block, Marks, State};
+use nodefile::kinds::{self, Kind, Role};
+use store::{Block, Marks, Table, Walk, Words};
 
-pub fn looping(marks: Marks) -> Marks
-    ensures { marks_of result ≡ in_loop (marks_of marks) }
-{
-    Marks {
-        in_loop: true,
-        load: marks.load,
-        param: marks.param,
-    }
-}
-
-fn loading(marks: Marks) -> Marks
-    ensures { marks_of result ≡ in_load (marks_of marks) }
-{
-    Marks {
-        in_loop: marks.in_loop,
-        load: true,
-        param: marks.param,
-    }
-}
-
-fn as_param(marks: Marks) -> Marks
-    ensures { marks_of result ≡ as_param (marks_of marks) }
-{
-    Marks {
-        in_loop: marks.in_loop,
-        load: marks.load,
-        param: true,
-    }
-}
-
-// The nodes of a part, one after the other.
+// The nodes of a part, one after the other: each is taken off the front of what is left.
 #[cycle(targets)]
 pub fn collect_kids(
     part: &[u8],
     at: usize,
     block: Block,
     marks: Marks,
-    st: State,
+    st: Walk,
     binds: &mut [u64],
-    w: &mut [u32],
-    t: &mut [u16],
-) -> State
+    w: &mut Words,
+    t: &mut Table,
+) -> Walk
     requires { Pre part.now at block st (mem binds.old w.old t.old) }
     ensures { Done part.now at block marks st (mem binds.old w.old t.old) result (mem binds.new w.new t.new) }
 {
     let mut s = st;
     let mut n = at;
-    let mut i = 0;
-    while i < part.len() {
-        let k = nodefile::size(&part[i..]) as usize;
-        let e = i + 8 * k;
-        s = collect_node(&part[i..e], n, block, marks, s, binds, w, t);
+    let mut rest = part;
+    while !rest.is_empty() {
+        let k = nodefile::size(rest) as usize;
+        s = collect_node(&rest[..8 * k], n, block, marks, s, binds, w, t);
         n += k;
-        i = e;
+        rest = &rest[8 * k..];
     }
     s
 }
@@ -73,31 +44,21 @@ pub fn collect_node(
     at: usize,
     block: Block,
     marks: Marks,
-    st: State,
+    st: Walk,
     binds: &mut [u64],
-    w: &mut [u32],
-    t: &mut [u16],
-) -> State
+    w: &mut Words,
+    t: &mut Table,
+) -> Walk
     requires { Pre1 part.now at block st (mem binds.old w.old t.old) }
     ensures { Done part.now at block marks st (mem binds.old w.old t.old) result (mem binds.new w.new t.new) }
 {
-    let k = nodefile::kind(part);
-    if k < kinds::NAME {
-        return collect_defines(part, at, block, marks, st, binds, w, t);
+    match kinds::role_of(part) {
+        Some(Role::Statement) => collect_defines(part, at, block, marks, st, binds, w, t),
+        Some(Role::Target) => collect_defines_lvalue(part, at, block, marks, st, binds, w, t),
+        Some(Role::Clause) => collect_defines_clause(part, at, block, marks, st, binds, w, t),
+        Some(Role::Parameter) => collect_defines_param(part, at, block, marks, st, binds, w, t),
+        _ => st,
     }
-    if k < kinds::IDENT {
-        return collect_defines_lvalue(part, at, block, marks, st, binds, w, t);
-    }
-    if k < kinds::FOR_CLAUSE {
-        return st;
-    }
-    if k < kinds::PARAM {
-        return collect_defines_clause(part, at, block, marks, st, binds, w, t);
-    }
-    if k == kinds::PARAM {
-        return collect_defines_param(part, at, block, marks, st, binds, w, t);
-    }
-    st
 }
 
 // A statement.
@@ -107,27 +68,31 @@ fn collect_defines(
     at: usize,
     block: Block,
     marks: Marks,
-    st: State,
+    st: Walk,
     binds: &mut [u64],
-    w: &mut [u32],
-    t: &mut [u16],
-) -> State
+    w: &mut Words,
+    t: &mut Table,
+) -> Walk
     requires { PreKind 0 7 part.now at block st (mem binds.old w.old t.old) }
     ensures { Done part.now at block marks st (mem binds.old w.old t.old) result (mem binds.new w.new t.new) }
 {
-    let k = nodefile::kind(part);
-    let e = part.len();
-    if k == kinds::DEF {
-        let name = nodefile::value(&part[8..e]) as usize;
-        return target::collect_assign_ident(name, at + 1, block, marks, st, binds, w, t);
-    }
-    if k == kinds::FOR {
-        return collect_kids(&part[8..e], at + 1, block, looping(marks), st, binds, w, t);
-    }
-    if k == kinds::LOAD {
-        return collect_kids(&part[8..e], at + 1, block, loading(marks), st, binds, w, t);
-    }
-    collect_kids(&part[8..e], at + 1, block, marks, st, binds, w, t)
+    let kids = &part[8..];
+    let inner = match kinds::of(part) {
+        Some(Kind::Def) => {
+            let name = nodefile::value(kids) as usize;
+            return target::collect_assign_ident(name, at + 1, block, marks, st, binds, w, t);
+        }
+        Some(Kind::For) => Marks {
+            in_loop: true,
+            ..marks
+        },
+        Some(Kind::Load) => Marks {
+            load: true,
+            ..marks
+        },
+        _ => marks,
+    };
+    collect_kids(kids, at + 1, block, inner, st, binds, w, t)
 }
 
 // A target.
@@ -137,21 +102,19 @@ fn collect_defines_lvalue(
     at: usize,
     block: Block,
     marks: Marks,
-    st: State,
+    st: Walk,
     binds: &mut [u64],
-    w: &mut [u32],
-    t: &mut [u16],
-) -> State
+    w: &mut Words,
+    t: &mut Table,
+) -> Walk
     requires { PreKind 8 10 part.now at block st (mem binds.old w.old t.old) }
     ensures { Done part.now at block marks st (mem binds.old w.old t.old) result (mem binds.new w.new t.new) }
 {
-    let k = nodefile::kind(part);
-    if k == kinds::NAME {
+    if kinds::of(part) == Some(Kind::Name) {
         let name = nodefile::value(part) as usize;
         return target::collect_assign_ident(name, at, block, marks, st, binds, w, t);
     }
-    let e = part.len();
-    collect_kids(&part[8..e], at + 1, block, marks, st, binds, w, t)
+    collect_kids(&part[8..], at + 1, block, marks, st, binds, w, t)
 }
 
 // A clause of a comprehension: its target.
@@ -161,16 +124,15 @@ fn collect_defines_clause(
     at: usize,
     block: Block,
     marks: Marks,
-    st: State,
+    st: Walk,
     binds: &mut [u64],
-    w: &mut [u32],
-    t: &mut [u16],
-) -> State
+    w: &mut Words,
+    t: &mut Table,
+) -> Walk
     requires { PreKind 15 16 part.now at block st (mem binds.old w.old t.old) }
     ensures { Done part.now at block marks st (mem binds.old w.old t.old) result (mem binds.new w.new t.new) }
 {
-    let e = part.len();
-    collect_kids(&part[8..e], at + 1, block, marks, st, binds, w, t)
+    collect_kids(&part[8..], at + 1, block, marks, st, binds, w, t)
 }
 
 // A parameter: its Name.
@@ -180,14 +142,17 @@ fn collect_defines_param(
     at: usize,
     block: Block,
     marks: Marks,
-    st: State,
+    st: Walk,
     binds: &mut [u64],
-    w: &mut [u32],
-    t: &mut [u16],
-) -> State
+    w: &mut Words,
+    t: &mut Table,
+) -> Walk
     requires { PreKind 17 17 part.now at block st (mem binds.old w.old t.old) }
     ensures { Done part.now at block marks st (mem binds.old w.old t.old) result (mem binds.new w.new t.new) }
 {
-    let e = part.len();
-    collect_kids(&part[8..e], at + 1, block, as_param(marks), st, binds, w, t)
+    let inner = Marks {
+        param: true,
+        ..marks
+    };
+    collect_kids(&part[8..], at + 1, block, inner, st, binds, w, t)
 }

@@ -1,12 +1,11 @@
 -- Following copies outward over an answer's copy records.
-use Rattle.std.specs.Prelude.{ℕ, List, map, reverse}
-use Rattle.std.proofs.Math.Option.{Option, none, some}
+use Rattle.std.specs.Prelude.{ℕ, List, map, reverse, Option, None, Some}
+use Rattle.std.proofs.Math.Option as math
 use Rattle.lexical.specs.State.{Copy}
 use Rattle.lexical.specs.Follow.{follow}
 use Rattle.answer.specs.Records.{copy_scope, copy_parent, copy_child}
+use Rattle.answer.specs.declared.ids.LocalSlotId.{LocalSlotId}
 use Rattle.follow.specs.declared.Place.{Place}
-use Rattle.follow.specs.declared.From.{From}
-use Rattle.follow.specs.declared.From.TheVariants.{Parent, Own}
 
 -- the copy that a record tells of; which binding it copies is not in the record
 abbrev pub copy_of : ℕ → Copy
@@ -15,9 +14,9 @@ copy_of x = record { scope = copy_scope x; parent = copy_parent x; child = copy_
 abbrev pub copies_of : List ℕ → List Copy
 copies_of xs = map copy_of xs
 
-abbrev pub from_of : Option ℕ → From
-from_of none = Own
-from_of (some k) = Parent (record { 0 = k })
+abbrev pub from_of : math.Option ℕ → Option LocalSlotId
+from_of math.none = None
+from_of (math.some k) = Some (record { 0 = k })
 
 abbrev pub place_of : ℕ × ℕ → Place
 place_of p = record { scope = record { 0 = p.0 }; slot = record { 0 = p.1 } }

@@ -1,14 +1,15 @@
 // Numbers 2, 3 and 4: the header, and the length of the file.
 #![tactic(auto)]
 
-ghost use Rattle.base.specs.Says.{Says};
 ghost use Rattle.base.specs.First.{First};
+ghost use Rattle.base.specs.Refusals.{answered};
+ghost use Rattle.base.specs.Says.{Says};
 ghost use Rattle.header.specs.Header.{BadHeader, BadCounts, BadLength, header_rows};
 
-// How much of each a file may have (document 01, number 3).
-const MOST_NODES: u64 = 2048;
+use base::Refusal;
 
-const MOST_NAMES: u64 = 1024;
+// How much of each a file may have (document 01, number 3), each a limit of its own; names have theirs in nodefile.
+const MOST_NODES: u64 = 2048;
 
 const MOST_ENTRIES: u64 = 256;
 
@@ -20,42 +21,19 @@ const MOST_POOL_BYTES: u64 = 16384;
 fn bad_header(file: &[u8]) -> bool
     ensures { Says result (BadHeader file.now) }
 {
-    if file.len() < 12 {
-        return true;
-    }
-    if nodefile::version(file) != 1 {
-        return true;
-    }
-    if nodefile::head_zero(file) != 0 {
-        return true;
-    }
-    false
+    file.len() < 12 || nodefile::version(file) != 1 || nodefile::head_zero(file) != 0
 }
 
 // Number 3: a count out of range.
 fn bad_counts(file: &[u8]) -> bool
     ensures { Says result (BadCounts file.now) }
 {
-    let nodes = nodefile::node_count(file);
-    if nodes == 0 {
-        return true;
-    }
-    if nodes > MOST_NODES {
-        return true;
-    }
-    if nodefile::name_count(file) > MOST_NAMES {
-        return true;
-    }
-    if nodefile::entry_count(file) > MOST_ENTRIES {
-        return true;
-    }
-    if nodefile::global_count(file) > MOST_GLOBALS {
-        return true;
-    }
-    if nodefile::pool_bytes(file) > MOST_POOL_BYTES {
-        return true;
-    }
-    false
+    nodefile::node_count(file) == 0
+        || nodefile::node_count(file) > MOST_NODES
+        || nodefile::name_count(file) > nodefile::MOST_NAMES as u64
+        || nodefile::entry_count(file) > MOST_ENTRIES
+        || nodefile::global_count(file) > MOST_GLOBALS
+        || nodefile::pool_bytes(file) > MOST_POOL_BYTES
 }
 
 // Number 4: the length is not what the header says.
@@ -67,25 +45,21 @@ fn bad_length(file: &[u8]) -> bool
     let entries = nodefile::entry_count(file);
     let globals = nodefile::global_count(file);
     let pool = nodefile::pool_bytes(file);
-    let length = file.len() as u64;
-    if length != 12 + 8 * nodes + 3 * names + 4 * entries + 2 * globals + pool {
-        return true;
-    }
-    false
+    file.len() as u64 != 12 + 8 * nodes + 3 * names + 4 * entries + 2 * globals + pool
 }
 
 // Numbers 2 to 4.
-pub fn judge_header(file: &[u8]) -> u64
-    ensures { First (header_rows file.now) result }
+pub fn judge_header(file: &[u8]) -> Result<(), Refusal>
+    ensures { First (header_rows file.now) (answered result) }
 {
     if bad_header(file) {
-        return 2;
+        return Err(Refusal::Header);
     }
     if bad_counts(file) {
-        return 3;
+        return Err(Refusal::Counts);
     }
     if bad_length(file) {
-        return 4;
+        return Err(Refusal::Length);
     }
-    0
+    Ok(())
 }

@@ -7,11 +7,14 @@ use mathlib.Core.Option.{some}
 use mathlib.Core.List.{List, [], ◌∷◌, ◌++◌}
 use native.Mathlib.Omega.{arith}
 use lib.ListN.{length, take, drop, get_elem?}
+use lib.Seq.{length-take-le}
 use Rattle.lexical.specs.Places.{In}
 use Rattle.lexical.specs.Tree.{Forest, nil, node}
 use Rattle.lexical.specs.State.{Binding}
 use Rattle.nodefile.specs.Node.{kind_of, value_of}
+use Rattle.std.specs.Prelude.{Result}
 use Rattle.store.specs.declared.ids.State.{State}
+use Rattle.store.specs.declared.ids.Full.{Full}
 use Rattle.store.specs.Sections.{Mem, mem, Long}
 use Rattle.store.proofs.Laws.Lengths.{Kept, long_kept}
 use Rattle.nodefile.specs.Valid.{Some, NameFirst}
@@ -19,8 +22,8 @@ use Rattle.lookup.specs.Enter.{OwnedIn, Entering, Entered, Leaving, Left}
 use Rattle.idents.specs.Cycle.{Ghost, Pre, Pre1, PreDef, Done, DoneAny, Parted, LastAt}
 use Rattle.idents.proofs.Fine.{Fine, fine_front, fine_back, fine_room, fine_new, fine_inside}
 use Rattle.idents.proofs.Resolving.{function_node}
-use Rattle.idents.proofs.Steps.{passed_on, x_long, x-one, x_fine, x_right, x_kids_length, x_kids_fine}
-use Rattle.idents.proofs.Cuts.{front, back, Cut, cut_last, front_length, back-length, alone_pre}
+use Rattle.idents.proofs.Steps.{back, back-length, passed_on, x_long, x-one, x_fine, x_right, x_kids_length, x_kids_fine}
+use Rattle.idents.proofs.Cuts.{Cut, cut_last, alone_pre}
 
 -- owners of two lists, one in front of the other
 pub owned_append : (bs env : List Binding) (ss : List ℕ) → OwnedIn bs ss → OwnedIn env ss → (j : ℕ) (b : Binding) → get_elem? (bs ++ env) j ≡ some b → In b.owner ss
@@ -33,7 +36,7 @@ unfolding NameFirst Some
 name_some nil h = h
 name_some (node a k v kids rest) h = tt
 
-module _ {part : List ℕ} {at : ℕ} {s : State} {m : Mem} (p : PreDef part at s m) where
+module _ {part : List ℕ} {at : ℕ} {s : Result State Full} {m : Mem} (p : PreDef part at s m) where
   abbrev pub d-kids : List ℕ
   d-kids = take (length part - 8) (drop 8 part)
 
@@ -64,26 +67,26 @@ module _ {part : List ℕ} {at : ℕ} {s : State} {m : Mem} (p : PreDef part at 
     pub d_inside : b + 8 ≤ length part - 8
     d_inside = omega (arith, (d-last p.one.pre.ghost).inside, x_kids_length p.one)
 
-    pub d_front-length : length (front d-kids b) ≡ b
-    d_front-length = front_length d-kids b (d_cut p.one.pre.ghost).inside
+    pub d_front-length : length (take b d-kids) ≡ b
+    d_front-length = length-take-le b d-kids (d_cut p.one.pre.ghost).inside
 
     pub d_back-length : length (back d-kids b) ≡ length part - 8 - b
     d_back-length = back-length d-kids b (d_cut p.one.pre.ghost).inside ∙ omega (arith, x_kids_length p.one)
 
     -- outside
-    abbrev d-front-ghost : Ghost part at s m → Ghost (front d-kids b) (at + 1) s m
+    abbrev d-front-ghost : Ghost part at s m → Ghost (take b d-kids) (at + 1) s m
     d-front-ghost g =
         let l = d-last g in
         passed_on g l.front g.st (d_cut g).first (fine_front l.front (d-body g) (subst (Fine g.ss) l.split (x_kids_fine p.one g))) g.rel
 
-    pub d_front_pre : Pre (front d-kids b) (at + 1) s m
+    pub d_front_pre : Pre (take b d-kids) (at + 1) s m
     d_front_pre = record {
       long = p.one.pre.long;
       within = omega (arith, p.one.pre.within, x_long p.one, d_inside, d_front-length);
       ghost = d-front-ghost p.one.pre.ghost;
     }
 
-    module _ (scope : ℕ) (e : scope ≡ value_of part) {s₁ : State} {m₁ : Mem} (x : Done (front d-kids b) (at + 1) false s m s₁ m₁) where
+    module _ (scope : ℕ) (e : scope ≡ value_of part) {s₁ : Result State Full} {m₁ : Mem} (x : Done (take b d-kids) (at + 1) false s m s₁ m₁) where
       d_fine : (g : Ghost part at s m) → Fine g.ss (node at (kind_of part) scope (x-one p.one g).kids nil)
       d_fine g = rw e (x_fine p.one g)
 
@@ -110,10 +113,10 @@ module _ {part : List ℕ} {at : ℕ} {s : State} {m : Mem} (p : PreDef part at 
         rel = x.right (d-front-ghost g);
       }
 
-      pub d_enter_pre : Kept m m₁ → (2304 ≤ length m₁.binds) × (length m₁.t ≡ 20864) × Entering scope s₁ m₁.binds m₁.t
-      d_enter_pre k = let l = long_kept p.one.pre.long k in (l.binds, l.t, d-entering p.one.pre.ghost)
+      pub d_enter_pre : Kept m m₁ → (2304 ≤ length m₁.binds) × Entering scope s₁ m₁.binds m₁.t
+      d_enter_pre k = ((long_kept p.one.pre.long k).binds, d-entering p.one.pre.ghost)
 
-      module _ {s₂ : State} {t₂ : List ℕ} (y : Entered scope s₁ m₁.binds m₁.t s₂ t₂) where
+      module _ {s₂ : Result State Full} {t₂ : List ℕ} (y : Entered scope s₁ m₁.binds m₁.t s₂ t₂) where
         d_owned : (g : Ghost part at s m) → OwnedIn (g.W.D scope ++ g.env) (scope ∷ g.ss)
         d_owned g = owned_append (g.W.D scope) g.env (scope ∷ g.ss) (λ j v q. inl (g.settled.owners scope j v q)) (λ j v q. inr (g.owned j v q))
 
@@ -141,15 +144,15 @@ module _ {part : List ℕ} {at : ℕ} {s : State} {m : Mem} (p : PreDef part at 
           rel = y.right (d-entering g);
         }
 
-        d_long : Kept m m₁ → length t₂ ≡ length m₁.t → Long (mem m₁.binds m₁.w t₂)
-        d_long k e = let l = long_kept p.one.pre.long k in record { binds = l.binds; w = l.w; t = e ∙ l.t }
+        d_long : Kept m m₁ → Long (mem m₁.binds m₁.w t₂)
+        d_long k = record { binds = (long_kept p.one.pre.long k).binds }
 
-        pub d_body_pre : Kept m m₁ → length t₂ ≡ length m₁.t → Pre1 (back d-kids b) (at + 1 + b / 8) s₂ (mem m₁.binds m₁.w t₂)
-        d_body_pre k e =
+        pub d_body_pre : Kept m m₁ → Pre1 (back d-kids b) (at + 1 + b / 8) s₂ (mem m₁.binds m₁.w t₂)
+        d_body_pre k =
             let g = p.one.pre.ghost in
-            alone_pre (d-body-ghost g) _ _ _ (d-last g).kids refl (d_long k e) (omega (arith, p.one.pre.within, x_long p.one, d_inside, d_back-length, (d-last g).eights))
+            alone_pre (d-body-ghost g) _ _ _ (d-last g).kids refl (d_long k) (omega (arith, p.one.pre.within, x_long p.one, d_inside, d_back-length, (d-last g).eights))
 
-        module _ {s₃ : State} {m₃ : Mem} (z : Done (back d-kids b) (at + 1 + b / 8) false s₂ (mem m₁.binds m₁.w t₂) s₃ m₃) where
+        module _ {s₃ : Result State Full} {m₃ : Mem} (z : Done (back d-kids b) (at + 1 + b / 8) false s₂ (mem m₁.binds m₁.w t₂) s₃ m₃) where
           -- and out
           abbrev d-leaving : Ghost part at s m → Leaving scope s₃ m₃.binds m₃.t
           d-leaving g = record {
@@ -163,10 +166,10 @@ module _ {part : List ℕ} {at : ℕ} {s : State} {m : Mem} (p : PreDef part at 
             rel = z.right (d-body-ghost g);
           }
 
-          pub d_leave_pre : Kept m m₁ → length t₂ ≡ length m₁.t → Kept (mem m₁.binds m₁.w t₂) m₃ → (2304 ≤ length m₃.binds) × (length m₃.t ≡ 20864) × Leaving scope s₃ m₃.binds m₃.t
-          d_leave_pre k e j = let l = long_kept (d_long k e) j in (l.binds, l.t, d-leaving p.one.pre.ghost)
+          pub d_leave_pre : Kept m m₁ → Kept (mem m₁.binds m₁.w t₂) m₃ → (2304 ≤ length m₃.binds) × Leaving scope s₃ m₃.binds m₃.t
+          d_leave_pre k j = ((long_kept (d_long k) j).binds, d-leaving p.one.pre.ghost)
 
-          pub d_done : {r : State} {t₄ : List ℕ} → Left scope s₃ m₃.binds m₃.t r t₄ → DoneAny part at s m r (mem m₃.binds m₃.w t₄)
+          pub d_done : {r : Result State Full} {t₄ : List ℕ} → Left scope s₃ m₃.binds m₃.t r t₄ → DoneAny part at s m r (mem m₃.binds m₃.w t₄)
           d_done u = record {
             right = λ g ty.
                 let l = d-last g in

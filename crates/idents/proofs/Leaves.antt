@@ -7,7 +7,9 @@ use native.Mathlib.Omega.{arith}
 use native.Mathlib.Decide.{ℕ_discrete}
 use lib.ListN.{length, take, drop}
 use Rattle.nodefile.specs.Node.{size_of, kind_of}
+use Rattle.std.specs.Prelude.{Result}
 use Rattle.store.specs.declared.ids.State.{State}
+use Rattle.store.specs.declared.ids.Full.{Full}
 use Rattle.store.specs.Sections.{Mem}
 use Rattle.nodefile.specs.Valid.{Some}
 use Rattle.nodefile.proofs.Laws.Parts.{some_long}
@@ -15,7 +17,7 @@ use Rattle.idents.specs.Cycle.{Pre1, Done}
 use Rattle.idents.proofs.Steps.{k_start, k_end, any_done, x-one, x_kids_length, x_kids_pre, x_others, x_type}
 use Rattle.idents.proofs.Functions.{name_some}
 
-module _ {part : List ℕ} {at : ℕ} {s : State} {m : Mem} (p : Pre1 part at s m) (h : size_of part ≤ 1) where
+module _ {part : List ℕ} {at : ℕ} {s : Result State Full} {m : Mem} (p : Pre1 part at s m) (h : size_of part ≤ 1) where
   no_kids : length (take (length part - 8) (drop 8 part)) ≡ 0
   no_kids = omega (arith, x_kids_length p, p.whole, p.some)
 

@@ -1,9 +1,8 @@
 pub mod Fine
 pub mod Joined
-pub mod Trail
 pub mod Resolving
-pub mod Overs
 pub mod Steps
+pub mod Trail
 pub mod Cuts
 pub mod Functions
 pub mod Comprs

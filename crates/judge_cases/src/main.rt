@@ -1,8 +1,8 @@
-// Judges each file of a fixed list on standard input and holds the answer against the one that the list gives.
+// Judges each file of a fixed list on standard input and holds the answer against the one that the list gives: both are numbers, as the list has them.
 // The list: how many cases, 4 bytes; then for each its answer, 1 byte, its length, 4 bytes, and its bytes, at most 65,536.
 #![tactic(auto)]
 
-ghost use Rattle.std.specs.Prelude.{◌≤◌, ◌<◌, IfOk};
+ghost use Rattle.std.specs.Prelude.{◌<◌, IfOk};
 
 use std::io;
 
@@ -15,15 +15,6 @@ fn count(input: &mut impl io::Read) -> io::Result<u64>
     Ok(bits::field(&head, 0, 32))
 }
 
-fn least(a: usize, b: usize) -> usize
-    ensures { (result ≤ a) × (result ≤ b) }
-{
-    if a < b {
-        return a;
-    }
-    b
-}
-
 // The answer to the next file, which is read into a part of a buffer.
 fn answer_in(input: &mut impl io::Read, part: &mut [u8]) -> io::Result<u64> {
     let got = stream::fill(input, part)?;
@@ -32,8 +23,8 @@ fn answer_in(input: &mut impl io::Read, part: &mut [u8]) -> io::Result<u64> {
 
 // The answer to the next file, which has so many bytes.
 fn answer(input: &mut impl io::Read, length: usize) -> io::Result<u64> {
-    let mut space = [0u8; 65536];
-    let n = least(length, 65536);
+    let mut space = [0u8; stream::MOST_BYTES];
+    let n = length.min(stream::MOST_BYTES);
     answer_in(input, &mut space[..n])
 }
 
@@ -41,19 +32,16 @@ fn report(rt: &impl Print, case: u64, expected: u64, answered: u64) -> io::Resul
     println!(rt; "case {case}: expected {expected}, answered {answered}")
 }
 
-// The next case: 0 if it is answered as expected, else 1, with a line that says so.
-fn wrong(rt: &impl Print, input: &mut impl io::Read, case: u64) -> io::Result<u64>
-    ensures { IfOk result (λ n. n ≤ 1) }
-{
+// Whether the next case is answered as expected; if not, a line says so.
+fn right(rt: &impl Print, input: &mut impl io::Read, case: u64) -> io::Result<bool> {
     let mut head = [0u8; 5];
     stream::fill(input, &mut head)?;
     let expected = bits::field(&head, 0, 8);
     let answered = answer(input, bits::field(&head, 8, 32) as usize)?;
-    if answered == expected {
-        return Ok(0);
+    if answered != expected {
+        report(rt, case, expected, answered)?;
     }
-    report(rt, case, expected, answered)?;
-    Ok(1)
+    Ok(answered == expected)
 }
 
 fn summary(rt: &impl Print, cases: u64, bad: u64) -> io::Result<()> {
@@ -65,7 +53,9 @@ fn main(rt: HostRuntime) -> io::Result<()> {
     let cases = count(&mut input)?;
     let mut bad = 0u64;
     for case in 0..cases {
-        bad += wrong(&rt, &mut input, case)?;
+        if !right(&rt, &mut input, case)? {
+            bad += 1;
+        }
     }
     summary(&rt, cases, bad)
 }

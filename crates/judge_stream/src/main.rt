@@ -4,23 +4,16 @@
 
 use std::io;
 
-// Judges the next file; false at the end.
-fn judged(rt: &impl Print, input: &mut impl io::Read, buf: &mut [u8]) -> io::Result<bool> {
-    let next = stream::next(input, buf)?;
-    if next.more {
-        let number = judge::judge(&buf[..next.length]);
-        println!(rt; "{number}")?;
-    }
-    Ok(next.more)
-}
-
 fn main(rt: HostRuntime) -> io::Result<()> {
     let mut input = rt.stdin();
-    let mut buf = [0u8; 65536];
-    for _ in 0..4294967295u64 {
-        if !judged(&rt, &mut input, &mut buf)? {
+    let mut buf = [0u8; stream::MOST_BYTES];
+    // a loop as in scope_stream: a closure for its body would need a clause that ties its calls to the bytes that were left
+    for _ in 0..stream::MOST_STRINGS {
+        let Some(length) = stream::next(&mut input, &mut buf)? else {
             return Ok(());
-        }
+        };
+        let number = judge::judge(&buf[..length]);
+        println!(rt; "{number}")?;
     }
     Ok(())
 }

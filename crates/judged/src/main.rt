@@ -10,7 +10,7 @@ use std::io;
 fn answer<R: io::Read>(input: &mut R) -> io::Result<u64>
     ensures { IfOk result (λ n. IfSome (R.remaining input.old) (λ xs. Judged xs n)) }
 {
-    let mut space = [0u8; 65536];
+    let mut space = [0u8; stream::MOST_BYTES];
     let n = stream::fill(input, &mut space)?;
     Ok(judge::judge(&space[..n]))
 }

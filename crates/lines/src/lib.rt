@@ -1,4 +1,5 @@
 // The lines of document 01's listing, a function for each kind; each takes its record as it stands in its buffer.
+// A name is any bytes, which `Display` cannot print: so a line is put piece by piece, through window and cursor (`text::put` says why they are two).
 #![tactic(auto)]
 
 mod pieces;
@@ -7,8 +8,9 @@ ghost use Rattle.std.specs.Prelude.{[], ◌∷◌};
 ghost use Rattle.text.specs.Window.{Puts};
 ghost use Rattle.lines.specs.Lines.{refusal_line, counts_line, binding_line, entry_line, slot_name, scope_names, scope_line, copy_line, resolution_text, ident_line, error_line};
 
-use answer::Answer;
-use nodefile::{kinds, node};
+use answer::{Answer, NodeClass};
+use nodefile::kinds::Kind;
+use nodefile::node;
 use pieces::{put_choice, put_name, put_number, put_source};
 use text::Cursor;
 
@@ -84,15 +86,13 @@ fn put_slot(out: &mut [u8], c: Cursor, file: &[u8], scope: u64, r: u32) -> Curso
     put_name(out, k, file, answer::slot::name(r))
 }
 
-// The names of a scope's slots, in order.
+// The names of a scope's slots, in order: the one loop of this crate (listing's lists have theirs).
 fn put_names(out: &mut [u8], c: Cursor, file: &[u8], slots: &[u32], scope: u64) -> Cursor
     ensures { Puts (scope_names file.now slots.now scope ∷ []) c out.old result out.new }
 {
     let mut k = c;
-    let mut i = 0;
-    while i < slots.len() {
-        k = put_slot(out, k, file, scope, slots[i]);
-        i += 1;
+    for r in slots {
+        k = put_slot(out, k, file, scope, *r);
     }
     k
 }
@@ -121,11 +121,15 @@ pub fn put_copy(out: &mut [u8], c: Cursor, r: u32) -> Cursor
 fn put_resolution(out: &mut [u8], c: Cursor, r: u32) -> Cursor
     ensures { Puts (resolution_text r ∷ []) c out.old result out.new }
 {
-    if answer::node::class(r) == answer::node::GLOBAL {
-        let g = put_number(out, c, b" G ", answer::node::slot(r));
-        return text::put_bytes(out, g, b" -\n");
-    }
-    let mut k = put_choice(out, c, answer::node::class(r), b" M ", b" L ");
+    let word: &[u8] = match answer::node::class(r) {
+        NodeClass::Global => {
+            let g = put_number(out, c, b" G ", answer::node::slot(r));
+            return text::put_bytes(out, g, b" -\n");
+        }
+        NodeClass::Module => b" M ",
+        NodeClass::Nothing | NodeClass::Local => b" L ",
+    };
+    let mut k = text::put_bytes(out, c, word);
     k = text::put_decimal(out, k, answer::node::slot(r));
     k = put_number(out, k, b" ", answer::node::binding(r));
     text::put_bytes(out, k, b"\n")
@@ -135,14 +139,16 @@ fn put_resolution(out: &mut [u8], c: Cursor, r: u32) -> Cursor
 pub fn put_ident(out: &mut [u8], c: Cursor, file: &[u8], i: usize, r: u32) -> Cursor
     ensures { Puts (ident_line file.now i r ∷ []) c out.old result out.new }
 {
-    if node::kind(file, i) != kinds::IDENT {
+    if node::named_kind(file, i) != Some(Kind::Ident) {
         return c;
     }
-    if answer::node::class(r) == answer::node::NOTHING {
-        return c;
+    match answer::node::class(r) {
+        NodeClass::Nothing => c,
+        _ => {
+            let k = put_number(out, c, b"I ", i as u64);
+            put_resolution(out, k, r)
+        }
     }
-    let k = put_number(out, c, b"I ", i as u64);
-    put_resolution(out, k, r)
 }
 
 // An error, with its node's name.

@@ -22,7 +22,7 @@ pub fn put_number(out: &mut [u8], c: Cursor, word: &[u8], n: u64) -> Cursor
     text::put_decimal(out, k, n)
 }
 
-// One of two words, by a bit.
+// One of two words, by a bit of a record: it is tested here once, not at each of the five callers.
 pub fn put_choice(out: &mut [u8], c: Cursor, bit: u64, one: &[u8], zero: &[u8]) -> Cursor
     ensures { Puts (choice bit one.now zero.now ∷ []) c out.old result out.new }
 {

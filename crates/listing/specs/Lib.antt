@@ -1,3 +1,4 @@
 pub mod Text
+pub mod Calls
 pub mod Example
 pub mod Theorems

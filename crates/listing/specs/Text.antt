@@ -1,10 +1,11 @@
 -- The text of document 01's listing, of any bytes, any answer and any buffers; and a file's own.
-use Rattle.std.specs.Prelude.{ℕ, suc, cond, List, [], ◌∷◌, eqb, get_or, take, replicate}
+use Rattle.std.specs.Prelude.{ℕ, suc, cond, List, [], ◌∷◌, eqb, get_or, take}
 use Rattle.nodefile.specs.Layout.{node_count}
 use Rattle.nodefile.specs.Listed.{scope_count}
 use Rattle.answer.specs.declared.Answer.{Answer}
-use Rattle.answer.specs.Buffers.{Buffers, buffers}
+use Rattle.answer.specs.Buffers.{Buffers}
 use Rattle.scope.specs.Answer.{Resolves}
+use Rattle.scope.specs.Records.{fresh}
 use Rattle.text.specs.Bytes.{joined, each}
 use Rattle.text.specs.Window.{Window}
 use Rattle.lines.specs.Lines.{rows, refusal_line, counts_line, binding_line, entry_line, scope_line, copy_line, ident_line, error_line}
@@ -44,7 +45,7 @@ text_of bs a b = cond (eqb a.number 0) (accepted_text bs a b) (refusal_line a.nu
 
 -- buffers of the full lengths
 abbrev pub full : Buffers
-full = buffers (replicate 2048 0) (replicate 2304 0) (replicate 2304 0) (replicate 256 0) (replicate 4096 0) (replicate 4096 0) (replicate 2048 0)
+full = fresh
 
 -- out is the window from byte `from` on of the listing of what resolving answers
 pub record Listed (bs : List ℕ) (from len : ℕ) (out : List ℕ) (n : ℕ) : Type 0 where

@@ -12,7 +12,7 @@ ghost use Rattle.listing.specs.Text.{text_of, accepted_text, Listed};
 use answer::Answer;
 use text::Cursor;
 
-// What is printed of an accepted file.
+// What is printed of an accepted file. The seven buffers are seven parameters: C lends each apart.
 fn put_accepted(
     out: &mut [u8],
     c: Cursor,
@@ -29,12 +29,12 @@ fn put_accepted(
     ensures { Puts (accepted_text file.now answer (buffers nodes.now bindings.now «module».now scopes.now slots.now copies.now errors.now) ∷ []) c out.old result out.new }
 {
     let mut k = lines::put_counts(out, c, answer);
-    k = lists::put_bindings(out, k, file, read::front64(bindings, answer.bindings));
-    k = lists::put_entries(out, k, file, read::front32(module, answer.module));
-    k = lists::put_scopes(out, k, file, scopes, read::front32(slots, answer.slots));
-    k = lists::put_copies(out, k, read::front32(copies, answer.copies));
+    k = lists::put_bindings(out, k, file, read::front(bindings, answer.bindings));
+    k = lists::put_entries(out, k, file, read::front(module, answer.module));
+    k = lists::put_scopes(out, k, file, scopes, read::front(slots, answer.slots));
+    k = lists::put_copies(out, k, read::front(copies, answer.copies));
     k = lists::put_idents(out, k, file, nodes);
-    lists::put_errors(out, k, file, read::front32(errors, answer.errors))
+    lists::put_errors(out, k, file, read::front(errors, answer.errors))
 }
 
 // The listing of a file, given what `scope::resolve` answered: as much of it as the window `text` shows from byte `from` on, then zeros.
@@ -69,24 +69,18 @@ pub fn print(
 pub fn listing(file: &[u8], from: usize, text: &mut [u8]) -> usize
     ensures { Listed file.now from (length text.old) text.new result }
 {
-    let mut nodes = [0u32; answer::NODES];
-    let mut bindings = [0u64; answer::BINDINGS];
-    let mut module = [0u32; answer::ENTRIES];
-    let mut scopes = [0u32; answer::SCOPES];
-    let mut slots = [0u32; answer::SLOTS];
-    let mut copies = [0u32; answer::COPIES];
-    let mut errors = [0u32; answer::ERRORS];
-    let answer = scope::resolve(
-        file,
-        &mut nodes,
-        &mut bindings,
-        &mut module,
-        &mut scopes,
-        &mut slots,
-        &mut copies,
-        &mut errors,
-    );
+    let r = scope::Records::of(file);
     print(
-        file, answer, &nodes, &bindings, &module, &scopes, &slots, &copies, &errors, from, text,
+        file,
+        r.answer,
+        &r.nodes,
+        &r.bindings,
+        &r.module,
+        &r.scopes,
+        &r.slots,
+        &r.copies,
+        &r.errors,
+        from,
+        text,
     )
 }

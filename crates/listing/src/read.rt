@@ -2,16 +2,7 @@
 ghost use Rattle.std.specs.Prelude.{◌≡◌, take, get_or};
 
 // The first n elements, or as many as there are.
-pub fn front32(list: &[u32], n: usize) -> &[u32]
-    ensures { result.now ≡ take n list.now }
-{
-    if n < list.len() {
-        return &list[..n];
-    }
-    list
-}
-
-pub fn front64(list: &[u64], n: usize) -> &[u64]
+pub fn front<T>(list: &[T], n: usize) -> &[T]
     ensures { result.now ≡ take n list.now }
 {
     if n < list.len() {
@@ -24,8 +15,5 @@ pub fn front64(list: &[u64], n: usize) -> &[u64]
 pub fn at(list: &[u32], i: usize) -> u32
     ensures { result ≡ get_or list.now i 0 }
 {
-    if i < list.len() {
-        return list[i];
-    }
-    0
+    list.get(i).copied().unwrap_or(0)
 }

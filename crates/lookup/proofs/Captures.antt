@@ -58,15 +58,15 @@ module _ {W : World} {env : List Binding} {ss : List ℕ} {cap : ℕ → Bool} {
 
 -- ---- `capture_local`
 
-module _ {id level : ℕ} {binds t : List ℕ} (owner scope : ℕ) (e-owner : owner ≡ get_or t (7424 + id) 0) (e-scope : scope ≡ get_or t (20736 + level) 0) where
+module _ {id level : ℕ} {binds t : List ℕ} {owner scope : ℕ} (e-owner : owner ≡ get_or t (7424 + id) 0) (e-scope : scope ≡ get_or t (20736 + level) 0) where
   owner_is : (g : Capturing id level binds t) → owner ≡ g.b.owner
   owner_is g = e-owner ∙ (rw g.number (made_owner g.rel.image.made g.b.id g.b g.stands))
 
   scope_is : (g : Capturing id level binds t) → scope ≡ top g.ss
   scope_is g = e-scope ∙ (rw g.level_is (env_top g.rel.around).0)
 
-  pub noted : (binds' : List ℕ) → 2304 ≤ length binds → (owner ≡ scope → ⊥) → binds' ≡ set binds id (captured_word (get_or binds id 0)) → Captured id level binds t binds'
-  noted binds' long h e =
+  pub noted : {binds' : List ℕ} → 2304 ≤ length binds → (owner ≡ scope → ⊥) → binds' ≡ set binds id (captured_word (get_or binds id 0)) → Captured id level binds t binds'
+  noted long h e =
       record {
         right = λ g.
             let n : eqb g.b.owner (top g.ss) ≡ false = eqb-not g.b.owner (top g.ss) (λ q. h (owner_is g ∙ q ∙ sym (scope_is g))) in
@@ -84,6 +84,3 @@ module _ {id level : ℕ} {binds t : List ℕ} (owner scope : ℕ) (e-owner : ow
 module _ {id level : ℕ} {binds t : List ℕ} where
   pub capturing_id : Capturing id level binds t → id < 2304
   capturing_id g = omega (arith, g.number, made_few g.rel.image.made g.b.id g.b g.stands)
-
-  pub capturing_level : Capturing id level binds t → level < 127
-  capturing_level g = omega (arith, g.level_is, g.rel.around.level_is, g.rel.around.low)

@@ -1,17 +1,18 @@
 -- A local's slot in the scope outside is copied into a fresh slot: what the three stores do to the relation.
 use Prim.Native.Nat.{ℕ, ◌+◌, ◌<◌, ◌≤◌}
 use mathlib.Core.Path.{◌≡◌, refl, ◌∙◌}
-use mathlib.Core.Bool.{Bool, true}
+use mathlib.Core.Bool.{Bool}
 use mathlib.Core.List.{List, [], ◌∷◌}
 use mathlib.Core.Option.{some}
 use native.Mathlib.Omega.{arith}
 use lib.ListN.{length, get_or, set, get_elem?, length-append, length-set}
+use Rattle.std.specs.Prelude.{Ok, Err}
 use Rattle.lexical.specs.State.{Binding, Copy, St}
 use Rattle.lexical.specs.Block.{fresh, slot_for}
 use Rattle.lexical.specs.Third.{copy_in}
 use Rattle.answer.specs.Records.{binding_name, scope_slots}
 use Rattle.store.specs.declared.ids.State.{State}
-use Rattle.store.specs.declared.ids.Brought.{Brought}
+use Rattle.store.specs.declared.ids.Full.{Full}
 use Rattle.store.specs.Sections.{Mem, mem}
 use Rattle.store.specs.Words.{pair_word, copied_word, more_word}
 use Rattle.store.specs.Rel.{World, Rel}
@@ -22,7 +23,7 @@ use Rattle.store.proofs.Laws.Nodes.{nodes_skip}
 use Rattle.store.proofs.Laws.Around.{env_skip}
 use Rattle.store.proofs.Laws.Names.{names_skip, ranges_skip, scratch_skip}
 use Rattle.lookup.specs.Bring.{Reached, Copying, Copied}
-use Rattle.store.proofs.Laws.Full.{over_full, never_both}
+use Rattle.store.proofs.Laws.Full.{over_full}
 
 -- the stores
 abbrev pub copy_stored : List ℕ → ℕ → ℕ → ℕ → ℕ → List ℕ
@@ -98,7 +99,7 @@ pub record Fits (scope id : ℕ) (s : State) (w : List ℕ) : Type 0 where
 
 -- the state after it
 abbrev pub onward : State → State
-onward s = record { bindings = s.bindings; slots = s.slots + 1; copies = s.copies + 1; errors = s.errors; level = s.level; full = s.full }
+onward s = record { bindings = s.bindings; slots = s.slots + 1; copies = s.copies + 1; errors = s.errors; level = s.level }
 
 module _ {scope parent id : ℕ} {s : State} {binds w t : List ℕ} where
   pub copy_fits : s.slots < 4096 → Copying scope parent id s (mem binds w t) → Fits scope id s w
@@ -112,31 +113,21 @@ module _ {scope parent id : ℕ} {s : State} {binds w t : List ℕ} where
       }
 
   -- there is no room
-  pub copy_full : (r : Brought) (m' : Mem) → 4096 ≤ s.slots → r.st.full ≡ true → Copied scope parent id s (mem binds w t) r m'
-  copy_full r m' h e =
-      record {
-        right = λ g. record {
-          rel = record { over = λ _. over_full scope g.b (parent, g.st) (omega (arith, g.rel.image.slots_are)); rel = λ f. never_both e f };
-          slot = λ f. never_both e f;
-          small = λ f. never_both e f;
-        };
-      }
+  pub copy_full : {e : Full} {m' : Mem} → 4096 ≤ s.slots → Copied scope parent id s (mem binds w t) (Err e) m'
+  copy_full h = record { right = λ g. over_full scope g.b (parent, g.st) (omega (arith, g.rel.image.slots_are)) }
 
-  pub copy_done : length w ≡ 12544 → length t ≡ 20864 → (child name : ℕ) (w₁ w₂ t₁ : List ℕ) → s.slots < 4096 → child ≡ scope_slots (get_or w (12288 + scope) 0) → name ≡ binding_name (get_or binds id 0)
+  pub copy_done : {child name : ℕ} {w₁ w₂ t₁ : List ℕ} → length w ≡ 12544 → length t ≡ 20864 → s.slots < 4096 → child ≡ scope_slots (get_or w (12288 + scope) 0) → name ≡ binding_name (get_or binds id 0)
       → w₁ ≡ copy_stored w s.copies scope parent child → w₂ ≡ slot_stored w₁ s.slots scope name → t₁ ≡ link_stored t s.slots id child
-      → Copied scope parent id s (mem binds w t) (record { st = onward s; slot = record { 0 = child } }) (mem binds w₂ t₁)
+      → Copied scope parent id s (mem binds w t) (Ok (record { st = onward s; slot = record { 0 = child } })) (mem binds w₂ t₁)
   unfolding copy_in
-  copy_done long_w long-t child name w₁ w₂ t₁ room e-child e-name e-w₁ e-w₂ e-t₁ =
+  copy_done {child = child} {name = name} {w₂ = w₂} {t₁ = t₁} long_w long-t room e-child e-name e-w₁ e-w₂ e-t₁ =
       record { right = λ g. let i = g.rel.image in go g (e-child ∙ fresh_read i.slots scope g.scope_small) (e-name ∙ (rw g.number (made_name i.made g.b.id g.b g.stands))) }
     where
       go : (g : Copying scope parent id s (mem binds w t)) → child ≡ fresh scope g.st → name ≡ g.b.var.name
           → Reached g.W g.env g.ss g.cap (copy_in scope g.b (parent, g.st)) (record { st = onward s; slot = record { 0 = child } }) (mem binds w₂ t₁)
       go g c n =
           record {
-            rel = record {
-              over = λ f. never_both f g.not_full;
-              rel = λ _. rw (e-w₂, e-w₁, e-t₁, n, c, g.number) (rel_copy g.rel long_w long-t g.b g.stands scope parent g.scope_small room (onward s) refl refl refl refl refl);
-            };
-            slot = λ _. c;
-            small = λ _. omega (arith, fresh_few scope g.st.slots, g.rel.image.slots_are);
+            rel = rw (e-w₂, e-w₁, e-t₁, n, c, g.number) (rel_copy g.rel long_w long-t g.b g.stands scope parent g.scope_small room (onward s) refl refl refl refl refl);
+            slot = c;
+            small = omega (arith, fresh_few scope g.st.slots, g.rel.image.slots_are);
           }

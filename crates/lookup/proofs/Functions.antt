@@ -1,11 +1,11 @@
 -- Into a function and out of it: its scope comes onto the stack and its variables into reach, and both go again.
 use Prim.Native.Nat.{ℕ, zero, suc, ◌+◌, ◌-◌, ◌<◌, ◌≤◌}
 use mathlib.Core.Path.{◌≡◌, refl, ap, ◌∙◌}
-use mathlib.Core.Bool.{true, false}
 use mathlib.Core.List.{List, [], ◌∷◌}
 use mathlib.Core.Option.{some}
 use native.Mathlib.Omega.{arith}
 use lib.ListN.{length, get_or, set, get_elem?}
+use Rattle.std.specs.Prelude.{Ok}
 use Rattle.lexical.specs.Lists.{none-some, Opened, absent, present, opened}
 use Rattle.lexical.specs.State.{Binding}
 use Rattle.store.specs.declared.ids.State.{State}
@@ -17,7 +17,6 @@ use Rattle.store.proofs.Laws.Points.{absent_past}
 use Rattle.store.proofs.Laws.Around.{env_enter, env_leave}
 use Rattle.store.proofs.Laws.Reach.{rest, with_around, rest_skip, rest_state}
 use Rattle.lookup.specs.Enter.{Entering, Entered, Leaving, Left}
-use Rattle.store.proofs.Laws.Full.{never_both}
 
 -- a local in reach stands among the bindings
 saved_stands : (env made : List Binding) (t : List ℕ) → SavedAll env made t → (k : ℕ) (b : Binding) → get_elem? env k ≡ some b → get_elem? made b.id ≡ some b
@@ -39,82 +38,63 @@ ranged {made} {bs} {lo} {hi} r b e l h = go (opened (get_elem? bs (b.id - lo)))
         q ∙ ap some i
 
 -- the same counts, at another level
-abbrev pub AtLevel : State → ℕ → State → Type 0
-AtLevel s level r = (r.level ≡ level) × (r.bindings ≡ s.bindings) × (r.slots ≡ s.slots) × (r.copies ≡ s.copies) × (r.errors ≡ s.errors) × (r.full ≡ s.full)
-
 abbrev levelled : State → ℕ → State
-levelled s level = record { bindings = s.bindings; slots = s.slots; copies = s.copies; errors = s.errors; level = level; full = s.full }
+levelled s level = record { bindings = s.bindings; slots = s.slots; copies = s.copies; errors = s.errors; level = level }
 
 -- ---- `enter_def`
 
 module _ {scope : ℕ} {s : State} {binds t : List ℕ} where
-  -- nothing is done any more
-  pub enter_over : s.full ≡ true → Entered scope s binds t s t
-  enter_over f = record { right = λ g. record { over = λ _. g.rel.over f; rel = λ n. never_both f n } }
+  pub enter_deep : Entering scope (Ok s) binds t → s.level < 126
+  enter_deep g = omega (arith, g.rel.rel.around.level_is, g.deep)
 
-  module _ (n : s.full ≡ false) where
-    pub enter_deep : Entering scope s binds t → s.level < 126
-    enter_deep g = omega (arith, (g.rel.rel n).around.level_is, g.deep)
+  module _ (long : length t ≡ 20864) {lo hi : ℕ} (e-lo : lo ≡ get_or t (12032 + scope) 0) (e-hi : hi ≡ get_or t (12288 + scope) 0) {t₁ : List ℕ} (e-t : t₁ ≡ set t (20736 + (s.level + 1)) scope) where
+    pub entered_scope : (g : Entering scope (Ok s) binds t) → Rel g.W g.env (scope ∷ g.ss) (caps g.st) g.st (levelled s (s.level + 1)) (mem binds g.w t₁)
+    entered_scope g =
+        let r = g.rel.rel in
+        let d = enter_deep g in
+        rw e-t (
+        with_around
+        (rest_state (rest_skip (rest r) (20736 + (s.level + 1)) scope (omega arith) (omega arith) (omega arith)) (levelled s (s.level + 1)) refl refl refl refl)
+        (env_enter r.around scope r.image.made.few long g.small d)
+        )
 
-    module _ (long : length t ≡ 20864) (lo hi : ℕ) (e-lo : lo ≡ get_or t (12032 + scope) 0) (e-hi : hi ≡ get_or t (12288 + scope) 0) (t₁ : List ℕ) (e-t : t₁ ≡ set t (20736 + (s.level + 1)) scope) where
-      pub entered_scope : (g : Entering scope s binds t) → Rel g.W g.env (scope ∷ g.ss) (caps g.st) g.st (levelled s (s.level + 1)) (mem binds g.w t₁)
-      entered_scope g =
-          let r = g.rel.rel n in
-          let d = enter_deep g in
-          rw e-t (
-          with_around
-          (rest_state (rest_skip (rest r) (20736 + (s.level + 1)) scope (omega arith) (omega arith) (omega arith)) (levelled s (s.level + 1)) refl refl refl refl)
-          (env_enter r.around scope r.image.made.few long g.small d)
-          )
+    pub its_range : (g : Entering scope (Ok s) binds t) → Range g.st.made (g.W.D scope) lo hi
+    its_range g = rw (e-lo, e-hi) (g.rel.rel.ranges scope g.small)
 
-      pub its_range : (g : Entering scope s binds t) → Range g.st.made (g.W.D scope) lo hi
-      its_range g = rw (e-lo, e-hi) ((g.rel.rel n).ranges scope g.small)
+    -- none of its variables is in reach: what is in reach belongs to the scopes around
+    pub unreached : (g : Entering scope (Ok s) binds t) (j : ℕ) (b : Binding) → get_elem? g.env j ≡ some b → lo ≤ b.id → b.id < hi → ⊥
+    unreached g j b e l h =
+        let r = g.rel.rel in
+        let q : b.owner ≡ scope = g.settled.owners scope (b.id - lo) b (ranged (its_range g) b (saved_stands g.env g.st.made t r.around.saved j b e) l h) in
+        g.unmet (rw (← q) (g.owned j b e))
 
-      -- none of its variables is in reach: what is in reach belongs to the scopes around
-      pub unreached : (g : Entering scope s binds t) (j : ℕ) (b : Binding) → get_elem? g.env j ≡ some b → lo ≤ b.id → b.id < hi → ⊥
-      unreached g j b e l h =
-          let r = g.rel.rel n in
-          let q : b.owner ≡ scope = g.settled.owners scope (b.id - lo) b (ranged (its_range g) b (saved_stands g.env g.st.made t r.around.saved j b e) l h) in
-          g.unmet (rw (← q) (g.owned j b e))
+    abbrev pub to-open : Entering scope (Ok s) binds t → scoping.Opening binds t₁ lo hi
+    to-open g = record { W = g.W; env = g.env; ss = scope ∷ g.ss; cap = caps g.st; st = g.st; s = levelled s (s.level + 1); w = g.w; bs = g.W.D scope; rel = entered_scope g; range = its_range g; apart = unreached g }
 
-      abbrev pub to-open : Entering scope s binds t → scoping.Opening binds t₁ lo hi
-      to-open g = record { W = g.W; env = g.env; ss = scope ∷ g.ss; cap = caps g.st; st = g.st; s = levelled s (s.level + 1); w = g.w; bs = g.W.D scope; rel = entered_scope g; range = its_range g; apart = unreached g }
-
-      pub enter-done : (t₂ : List ℕ) (r : State) → scoping.Opened binds t₁ lo hi t₂ → AtLevel s (s.level + 1) r → Entered scope s binds t r t₂
-      enter-done t₂ r o e =
-          record {
-            right = λ g. let x = o.right (to-open g) in record {
-              over = λ f. never_both f (e.5 ∙ n);
-              rel = λ _. with_around (rest_state (rest x) r e.1 e.2 e.3 e.4) (rw e.0 x.around);
-            };
-          }
+    pub enter-done : {t₂ : List ℕ} → scoping.Opened binds t₁ lo hi t₂ → Entered scope (Ok s) binds t (Ok (levelled s (s.level + 1))) t₂
+    enter-done o = record { right = λ g. record { over = tt; rel = o.right (to-open g) } }
 
 -- ---- `exit_def`
 
 module _ {scope : ℕ} {s : State} {binds t : List ℕ} where
-  -- nothing is done any more
-  pub exit_over : s.full ≡ true → Left scope s binds t s t
-  exit_over f = record { right = λ g. record { over = λ _. g.rel.over f; rel = λ n. never_both f n } }
+  pub exit_deep : Leaving scope (Ok s) binds t → 1 ≤ s.level
+  exit_deep g = omega (arith, g.rel.rel.around.level_is, g.outside)
 
-  module _ (n : s.full ≡ false) where
-    pub exit_deep : Leaving scope s binds t → 1 ≤ s.level
-    exit_deep g = omega (arith, (g.rel.rel n).around.level_is, g.outside)
+  module _ {lo hi : ℕ} (e-lo : lo ≡ get_or t (12032 + scope) 0) (e-hi : hi ≡ get_or t (12288 + scope) 0) where
+    pub left_range : (g : Leaving scope (Ok s) binds t) → Range g.st.made (g.W.D scope) lo hi
+    left_range g = rw (e-lo, e-hi) (g.rel.rel.ranges scope g.small)
 
-    module _ (lo hi : ℕ) (e-lo : lo ≡ get_or t (12032 + scope) 0) (e-hi : hi ≡ get_or t (12288 + scope) 0) where
-      pub left_range : (g : Leaving scope s binds t) → Range g.st.made (g.W.D scope) lo hi
-      left_range g = rw (e-lo, e-hi) ((g.rel.rel n).ranges scope g.small)
+    pub numbered : (g : Leaving scope (Ok s) binds t) → scoping.Numbered (g.W.D scope) lo
+    numbered g k b e = (g.rel.rel.image.made.sound (lo + k) b ((left_range g).are k b e)).id
 
-      pub numbered : (g : Leaving scope s binds t) → scoping.Numbered (g.W.D scope) lo
-      numbered g k b e = ((g.rel.rel n).image.made.sound (lo + k) b ((left_range g).are k b e)).id
+    abbrev pub to-close : Leaving scope (Ok s) binds t → scoping.Closing binds t lo hi
+    to-close g = record { W = g.W; env = g.env; ss = scope ∷ g.ss; cap = caps g.st; st = g.st; s = s; w = g.w; bs = g.W.D scope; rel = g.rel.rel; numbered = numbered g; end = (left_range g).end }
 
-      abbrev pub to-close : Leaving scope s binds t → scoping.Closing binds t lo hi
-      to-close g = record { W = g.W; env = g.env; ss = scope ∷ g.ss; cap = caps g.st; st = g.st; s = s; w = g.w; bs = g.W.D scope; rel = g.rel.rel n; numbered = numbered g; end = (left_range g).end }
-
-      pub exit_done : (t₁ : List ℕ) (r : State) → scoping.Closed binds t lo hi t₁ → AtLevel s (s.level - 1) r → Left scope s binds t r t₁
-      exit_done t₁ r c e =
-          record {
-            right = λ g. let x = c.right (to-close g) in record {
-              over = λ f. never_both f (e.5 ∙ n);
-              rel = λ _. with_around (rest_state (rest x) r e.1 e.2 e.3 e.4) (env_leave r.level (omega (arith, e.0, exit_deep g, x.around.level_is)) x.around);
-            };
-          }
+    pub exit_done : {t₁ : List ℕ} → scoping.Closed binds t lo hi t₁ → Left scope (Ok s) binds t (Ok (levelled s (s.level - 1))) t₁
+    exit_done c =
+        record {
+          right = λ g. let x = c.right (to-close g) in record {
+            over = tt;
+            rel = with_around (rest_state (rest x) (levelled s (s.level - 1)) refl refl refl refl) (env_leave (s.level - 1) (omega (arith, exit_deep g, x.around.level_is)) x.around);
+          };
+        }

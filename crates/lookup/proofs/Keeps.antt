@@ -1,11 +1,11 @@
 -- An identifier's outcome is kept, in its node's record or among the errors: what that does to the relation.
 use Prim.Native.Nat.{ℕ, ◌+◌, ◌<◌, ◌≤◌}
 use mathlib.Core.Path.{◌≡◌, refl, sym, ap, ◌∙◌, subst}
-use mathlib.Core.Bool.{false}
 use mathlib.Core.List.{List, [], ◌∷◌, ◌++◌, append-nil}
 use native.Mathlib.Omega.{arith}
 use native.Mathlib.Decide.{dec_lt}
 use lib.ListN.{length, set, length-append}
+use Rattle.std.specs.Prelude.{Result, Ok}
 use Rattle.lexical.specs.Module.{module', global, missing}
 use Rattle.lexical.specs.State.{Binding, St, Event, Found, local, refused, outside}
 use Rattle.lexical.specs.Third.{logged}
@@ -13,9 +13,9 @@ use Rattle.lexical.specs.Records as rec
 use Rattle.lexical.specs.Records.{answer_row, outer_row, error_row, outer_error}
 use Rattle.lexical.proofs.Laws.Adds.{errors_snoc, captured_snoc, FoundBelow, OuterBelow, below_snoc}
 use Rattle.store.specs.declared.ids.State.{State}
+use Rattle.store.specs.declared.ids.Full.{Full}
 use Rattle.store.specs.declared.ids.Resolution.{Resolution}
 use Rattle.store.specs.declared.ids.Resolution.TheVariants as res
-use Rattle.store.specs.declared.ids.Slot.{Slot}
 use Rattle.store.specs.Sections.{mem}
 use Rattle.store.specs.Words.{row_node, row_word, answer_word, pair_word}
 use Rattle.store.specs.Image.{ErrorsIn, NodesIn}
@@ -25,7 +25,6 @@ use Rattle.store.proofs.Laws.Slots.{slots_skip_w}
 use Rattle.store.proofs.Laws.Copied.{copies_skip, errors_skip, errors_push}
 use Rattle.store.proofs.Laws.Nodes.{nodes_skip, nodes_answer, nodes_quiet}
 use Rattle.lookup.specs.Lookup.{res_of, caps_with, SmallSlot, slot_answer, ErrorAdded, Small, Keeping, Kept}
-use Rattle.store.proofs.Laws.Full.{never_both}
 use Rattle.lookup.proofs.Captures.{rel_caps}
 
 -- ---- the row that an outcome has
@@ -131,18 +130,12 @@ module _ {W : World} {env : List Binding} {ss : List ℕ} {st : St} {s : State} 
         (nodes_skip W.M st.named (st.log ++ (event ∷ [])) w (nodes_quiet W.M st.named st.log w i.nodes event a.no_answer) (10240 + s.errors) (pair_word at code) (omega arith))
 
     -- `add_error`
-    pub r_error : s.full ≡ false → (s' : State) (w' : List ℕ) → ErrorAdded at code s w s' w' → R W env ss (logged at name ss f st) s' (mem binds w' t)
+    pub r_error : {s' : Result State Full} {w' : List ℕ} → ErrorAdded at code s w s' w' → R W env ss (logged at name ss f st) s' (mem binds w' t)
     unfolding logged
-    r_error n s' w' d =
+    r_error d =
         elim (dec_lt s.errors 2048) [
-          | yes room ↦ let k = d.kept room in record {
-            over = λ q. never_both q (k.2 ∙ n);
-            rel = λ _. rw k.0 (rel_error room s' d.bindings_stay d.slots_stay d.copies_stay d.level_stays k.1);
-          }
-          | no none ↦ let q : 2048 ≤ s.errors = omega arith in record {
-            over = λ _. too_many_errors (omega (arith, more_long));
-            rel = λ e. never_both (d.none_left q) e;
-          }
+          | yes room ↦ let k = d.kept room in rw (k.0, k.1) (record { over = tt; rel = rel_error room _ refl refl refl refl refl })
+          | no none ↦ let q : 2048 ≤ s.errors = omega arith in rw (d.none_left q) (record { over = too_many_errors (omega (arith, more_long)); rel = tt })
         ]
 
 -- ---- `put_resolution`
@@ -155,14 +148,8 @@ module _ {at : ℕ} {r : Resolution} {s : State} {w : List ℕ} where
   pub fits_as : (r' : Resolution) → r ≡ r' → Keeping at r s w → Fitting r'
   fits_as r' e g = subst (λ (x : Resolution). Fitting x) (sym g.is ∙ e) (fitting g.W.M (length g.st.made) g.f g.rel.image.made.few g.small g.below)
 
-  pub kept_answer : length w ≡ 12544 → (v : ℕ) (w' : List ℕ) → ((g : Keeping at r s w) → Answered g.W.M at g.f v) → w' ≡ set w at v → Kept at r s w s w'
-  kept_answer long v w' a e =
-      record {
-        right = λ g name. record {
-          over = λ f. never_both f g.not_full;
-          rel = λ _. rw e (rel_answer g.f g.rel g.below long at name v g.node (a g));
-        };
-      }
+  pub kept_answer : length w ≡ 12544 → {v : ℕ} {w' : List ℕ} → ((g : Keeping at r s w) → Answered g.W.M at g.f v) → w' ≡ set w at v → Kept at r s w (Ok s) w'
+  kept_answer long {v} a e = record { right = λ g name. record { over = tt; rel = rw e (rel_answer g.f g.rel g.below long at name v g.node (a g)) } }
 
-  pub kept_error : length w ≡ 12544 → (code : ℕ) (s' : State) (w' : List ℕ) → ((g : Keeping at r s w) → Refused g.W.M at g.f code) → ErrorAdded at code s w s' w' → Kept at r s w s' w'
-  kept_error long code s' w' a d = record { right = λ g name. r_error g.f g.rel g.below long at name code (a g) g.not_full s' w' d }
+  pub kept_error : length w ≡ 12544 → {code : ℕ} {s' : Result State Full} {w' : List ℕ} → ((g : Keeping at r s w) → Refused g.W.M at g.f code) → ErrorAdded at code s w s' w' → Kept at r s w s' w'
+  kept_error long {code} a d = record { right = λ g name. r_error g.f g.rel g.below long at name code (a g) d }

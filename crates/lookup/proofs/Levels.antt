@@ -1,15 +1,15 @@
 -- What the steps of `bring` rest on: `lexical`'s bring by cases, what is at hand in a scope, and the scope at a level.
 use Prim.Native.Nat.{ℕ, suc, ◌+◌, ◌<◌}
-use mathlib.Core.Path.{◌≡◌, refl, sym, ap, ◌∙◌}
+use mathlib.Core.Path.{◌≡◌, refl, sym, ◌∙◌}
 use mathlib.Core.List.{List, [], ◌∷◌}
 use mathlib.Core.Option.{Option, none, some}
 use native.Mathlib.Omega.{arith}
 use lib.ListN.{length, get_or, get_elem?}
+use Rattle.std.specs.Prelude.{None, Some}
 use Rattle.lexical.specs.Lists.{first, map_o, none-some, Tested, was, wasnt, tested}
 use Rattle.lexical.specs.State.{Binding, Slot, St}
 use Rattle.lexical.specs.Third.{holds, hand_in, hand, copy_in, bring_to, bring}
 use Rattle.answer.specs.declared.ids.LocalSlotId.{LocalSlotId}
-use Rattle.store.specs.declared.ids.Hand.TheVariants.{At, Nothing}
 use Rattle.store.specs.Hands.{hand_of}
 use Rattle.store.specs.Meanings.{Stacked}
 
@@ -34,13 +34,13 @@ hand-small s i k n (r ∷ rs) h e = go (tested (holds s i r)) (hand-small s i k 
     go (was q) _ = let z : some r.num ≡ some k = rw q at e in let y : r.num ≡ k = cc in omega (arith, h 0 r refl)
     go (wasnt q) rest = rest (rw q at e)
 
-pub hand_at : (o : Option ℕ) (k : ℕ) → At (record { 0 = k }) ≡ hand_of o → o ≡ some k
-hand_at none k e = absurd (let z : ◌≡◌ {A = ℕ} 0 1 = cc in omega arith)
-hand_at (some x) k e = let z : ◌≡◌ {A = LocalSlotId} (record { 0 = k }) (record { 0 = x }) = cc in ap (λ (y : LocalSlotId). some y.0) (sym z)
+pub hand_at : (o : Option ℕ) (k : LocalSlotId) → Some k ≡ hand_of o → o ≡ some k.0
+hand_at none k e = cc
+hand_at (some x) k e = let z : k ≡ record { 0 = x } = cc in rw z refl
 
-pub hand-nothing : (o : Option ℕ) → Nothing ≡ hand_of o → o ≡ none
+pub hand-nothing : (o : Option ℕ) → None ≡ hand_of o → o ≡ none
 hand-nothing none e = refl
-hand-nothing (some x) e = absurd (let z : ◌≡◌ {A = ℕ} 0 1 = cc in omega arith)
+hand-nothing (some x) e = cc
 
 -- ---- the scope at a level
 

@@ -1,5 +1,5 @@
 -- A name that is looked up: the innermost local that has it, else the module's binding, else a global.
-use Prim.Native.Nat.{ℕ, zero, suc, ◌+◌, ◌-◌, ◌<◌, ◌≤◌}
+use Prim.Native.Nat.{ℕ, zero, suc, ◌+◌, ◌<◌}
 use mathlib.Core.Path.{◌≡◌, refl, sym, ap, ◌∙◌}
 use mathlib.Core.Bool.{Bool, true, false, cond, or-false}
 use mathlib.Core.List.{List, [], ◌∷◌}
@@ -8,13 +8,17 @@ use native.Mathlib.Omega.{arith}
 use native.Mathlib.Nat.{zero-add}
 use lib.Dec.{eqb}
 use lib.ListN.{length, get_or, get_elem?}
+use Rattle.std.specs.Prelude.{None, Some, Result, Ok}
 use Rattle.lexical.specs.Lists.{first, place, map_o, none-some, Opened, absent, present, opened}
 use Rattle.lexical.specs.Module.{Outer, global, missing, outer, beyond, globally}
 use Rattle.lexical.specs.State.{Binding, outside}
 use Rattle.lexical.specs.Block.{called}
 use Rattle.lexical.specs.Records.{captures_found, captures_outer}
 use Rattle.lexical.proofs.Laws.Adds.{FoundBelow, OuterBelow}
+use Rattle.answer.specs.declared.ids.BindingId.{BindingId}
+use Rattle.store.specs.Noted.{noted, binding_noted}
 use Rattle.store.specs.declared.ids.State.{State}
+use Rattle.store.specs.declared.ids.Full.{Full}
 use Rattle.store.specs.declared.ids.Resolved.{Resolved}
 use Rattle.store.specs.declared.ids.Resolution.{Resolution}
 use Rattle.store.specs.declared.ids.Resolution.TheVariants as res
@@ -23,20 +27,28 @@ use Rattle.store.specs.Meanings.{number_of}
 use Rattle.store.specs.Rel.{caps}
 use Rattle.store.proofs.Laws.Around.{number-some, number-none, saved_found}
 use Rattle.lookup.specs.Lookup.{res_of, looked, as_global, Small, Locally, LocalDone, InModule, ModuleDone, Named, NamedDone, Found'}
-use Rattle.store.proofs.Laws.Full.{never_both}
 use Rattle.lookup.proofs.Captures.{rel_caps}
 
 -- ---- numbers (+ 1) of what is there
 
-plus-some : (o : Option ℕ) (n : ℕ) → n ≡ plus o → 0 < n → o ≡ some (n - 1)
-unfolding plus
-plus-some none n e h = absurd (omega arith)
-plus-some (some k) n e h = let z : k ≡ n - 1 = omega arith in ap some z
+-- .. as code reads them
+pub noted-some : {v : ℕ} {id : BindingId} → Some id ≡ binding_noted v → v ≡ id.0 + 1
+noted-some {v = zero} {id} e = cc
+noted-some {v = suc n} {id} e = let z : id ≡ record { 0 = n } = cc in rw z (omega arith)
 
-plus_none : (o : Option ℕ) (n : ℕ) → n ≡ plus o → n ≤ 0 → o ≡ none
+pub noted_none : {v : ℕ} → None ≡ binding_noted v → v ≡ 0
+noted_none {v = zero} e = refl
+noted_none {v = suc n} e = cc
+
+plus-some : (o : Option ℕ) (n : ℕ) → n + 1 ≡ plus o → o ≡ some n
 unfolding plus
-plus_none none n e h = refl
-plus_none (some k) n e h = absurd (omega arith)
+plus-some none n e = absurd (omega arith)
+plus-some (some k) n e = let z : k ≡ n = omega arith in ap some z
+
+plus_none : (o : Option ℕ) → 0 ≡ plus o → o ≡ none
+unfolding plus
+plus_none none e = refl
+plus_none (some k) e = absurd (omega arith)
 
 pub place-below : (n : ℕ) (xs : List ℕ) (i : ℕ) → place n xs ≡ some i → i < length xs
 unfolding place map_o
@@ -49,15 +61,15 @@ place-below n (x ∷ xs) i e = go (eqb x n) (opened (place n xs)) e (place-below
     go false (present j q) e h = let y : some (suc j) ≡ some i = sym (ap (map_o suc) q) ∙ e in let z : suc j ≡ i = cc in omega (arith, h j q)
 
 -- a global, as `get_global` answers it
-pub global_some : (g : ℕ) → 0 < g → res.Global (g - 1) ≡ as_global g
+pub global_some : (v : ℕ) {g : ℕ} → Some g ≡ noted v → res.Global g ≡ as_global v
 unfolding as_global
-global_some zero h = absurd (omega arith)
-global_some (suc g) h = let z : suc g - 1 ≡ g = omega arith in ap res.Global z
+global_some zero e = cc
+global_some (suc n) e = cc
 
-pub global_none : (g : ℕ) → g ≤ 0 → res.NotFound ≡ as_global g
+pub global_none : (v : ℕ) → None ≡ noted v → res.NotFound ≡ as_global v
 unfolding as_global
-global_none zero h = refl
-global_none (suc g) h = absurd (omega arith)
+global_none zero e = refl
+global_none (suc n) e = cc
 
 -- ---- `get_name`
 
@@ -69,70 +81,64 @@ pub record Meant (n id : ℕ) (env made : List Binding) : Type 0 where
   pub stands : get_elem? made b.id ≡ some b
   pub local : b.local ≡ true
 
-module _ {name : ℕ} {s : State} {binds w t : List ℕ} (b : ℕ) (e-b : b ≡ get_or t name 0) where
-  innermost : (g : Named name s (mem binds w t)) → b ≡ number_of g.env name
-  innermost g = let z : 0 + name ≡ name = zero-add name in e-b ∙ (rw z at (g.rel.around.cur name g.known))
+module _ {name : ℕ} {s : State} {binds w t : List ℕ} where
+  innermost : (g : Named name s (mem binds w t)) → get_or t name 0 ≡ number_of g.env name
+  innermost g = let z : 0 + name ≡ name = zero-add name in rw z at (g.rel.around.cur name g.known)
 
   -- a local
-  module _ (h : 0 < b) where
-    pub meant : (g : Named name s (mem binds w t)) → Meant name (b - 1) g.env g.st.made
+  module _ {id : BindingId} (e : Some id ≡ binding_noted (get_or t name 0)) where
+    pub meant : (g : Named name s (mem binds w t)) → Meant name id.0 g.env g.st.made
     meant g = go (opened (first (called name) g.env))
       where
-        go : Opened (first (called name) g.env) → Meant name (b - 1) g.env g.st.made
-        go (absent e) = absurd (omega (arith, innermost g, number-none g.env name e))
-        go (present x e) =
-            let f = saved_found g.env g.st.made t name x g.rel.around.saved e in
-            record { b = x; is = e; number = omega (arith, innermost g, number-some g.env name x e); stands = f.0; local = f.1 }
+        go : Opened (first (called name) g.env) → Meant name id.0 g.env g.st.made
+        go (absent q) = absurd (omega (arith, noted-some e, innermost g, number-none g.env name q))
+        go (present x q) =
+            let f = saved_found g.env g.st.made t name x g.rel.around.saved q in
+            record { b = x; is = q; number = omega (arith, noted-some e, innermost g, number-some g.env name x q); stands = f.0; local = f.1 }
 
-    abbrev pub to_local : Named name s (mem binds w t) → Locally (b - 1) s (mem binds w t)
-    to_local g = let x = meant g in record { W = g.W; env = g.env; ss = g.ss; st = g.st; b = x.b; rel = g.rel; not_full = g.not_full; stands = x.stands; local = x.local; number = x.number }
+    abbrev pub to_local : Named name s (mem binds w t) → Locally id.0 s (mem binds w t)
+    to_local g = let x = meant g in record { W = g.W; env = g.env; ss = g.ss; st = g.st; b = x.b; rel = g.rel; stands = x.stands; local = x.local; number = x.number }
 
-    pub name_local : (ty : Bool) (r : Resolved) (m' : Mem) → LocalDone (b - 1) ty s (mem binds w t) r m' → NamedDone name ty s (mem binds w t) r m'
-    name_local ty r m' d = record { right = λ g. rw (meant g).is (d.right (to_local g) (outer g.W.mods g.W.F.globals name)) }
+    pub name_local : {ty : Bool} {r : Result Resolved Full} {m' : Mem} → LocalDone id.0 ty s (mem binds w t) r m' → NamedDone name ty s (mem binds w t) r m'
+    name_local d = record { right = λ g. rw (meant g).is (d.right (to_local g) (outer g.W.mods g.W.F.globals name)) }
 
   -- no local
-  module _ (h : b ≤ 0) (m : ℕ) (e-m : m ≡ get_or t (1024 + name) 0) where
+  module _ (e : None ≡ binding_noted (get_or t name 0)) where
     no_local : (g : Named name s (mem binds w t)) → first (called name) g.env ≡ none
     no_local g = go (opened (first (called name) g.env))
       where
         go : Opened (first (called name) g.env) → first (called name) g.env ≡ none
-        go (absent e) = e
-        go (present x e) = absurd (omega (arith, innermost g, number-some g.env name x e))
+        go (absent q) = q
+        go (present x q) = absurd (omega (arith, noted_none e, innermost g, number-some g.env name x q))
 
     -- a module name
-    module _ (k : 0 < m) where
-      pub placed : (g : Named name s (mem binds w t)) → place name g.W.mods ≡ some (m - 1)
-      placed g = plus-some (place name g.W.mods) m (e-m ∙ g.rel.names.in_module name g.known) k
+    module _ {id : BindingId} (e' : Some id ≡ binding_noted (get_or t (1024 + name) 0)) where
+      pub placed : (g : Named name s (mem binds w t)) → place name g.W.mods ≡ some id.0
+      placed g = plus-some (place name g.W.mods) id.0 (sym (noted-some e') ∙ g.rel.names.in_module name g.known)
 
-      abbrev pub to_module : Named name s (mem binds w t) → InModule (m - 1) s binds
-      to_module g = record { W = g.W; env = g.env; ss = g.ss; st = g.st; w = w; t = t; settled = g.settled; rel = g.rel; not_full = g.not_full; known = place-below name g.W.mods (m - 1) (placed g) }
+      abbrev pub to_module : Named name s (mem binds w t) → InModule id.0 s binds
+      to_module g = record { W = g.W; env = g.env; ss = g.ss; st = g.st; w = w; t = t; settled = g.settled; rel = g.rel; known = place-below name g.W.mods id.0 (placed g) }
 
-      pub name_module : (ty : Bool) (r : Resolved) (binds' : List ℕ) → ModuleDone (m - 1) s binds r binds' → NamedDone name ty s (mem binds w t) r (mem binds' w t)
+      pub name_module : {ty : Bool} {r : Resolved} {binds' : List ℕ} → ModuleDone id.0 s binds r binds' → NamedDone name ty s (mem binds w t) (Ok r) (mem binds' w t)
       unfolding looked outer beyond
-      name_module ty r binds' d = record { right = λ g. rw (no_local g, placed g) (d.right (to_module g)) }
+      name_module d = record { right = λ g. rw (no_local g, placed g) (d.right (to_module g)) }
 
     -- a global, or nothing
-    module _ (k : m ≤ 0) where
+    module _ (e' : None ≡ binding_noted (get_or t (1024 + name) 0)) where
       unplaced : (g : Named name s (mem binds w t)) → place name g.W.mods ≡ none
-      unplaced g = plus_none (place name g.W.mods) m (e-m ∙ g.rel.names.in_module name g.known) k
+      unplaced g = plus_none (place name g.W.mods) (sym (noted_none e') ∙ g.rel.names.in_module name g.known)
 
-      pub name_global : (ty : Bool) (x : Resolution) → x ≡ as_global (get_or t (2048 + name) 0) → NamedDone name ty s (mem binds w t) (record { st = s; res = x }) (mem binds w t)
+      pub name_global : {ty : Bool} {x : Resolution} → x ≡ as_global (get_or t (2048 + name) 0) → NamedDone name ty s (mem binds w t) (Ok (record { st = s; res = x })) (mem binds w t)
       unfolding looked outer beyond globally plus as_global res_of Small FoundBelow OuterBelow captures_found captures_outer
-      name_global ty x e = record { right = λ g. rw (no_local g, unplaced g) (go g (opened (place name g.W.F.globals))) }
+      name_global {x = x} q = record { right = λ g. rw (no_local g, unplaced g) (go g (opened (place name g.W.F.globals))) }
         where
           held : (g : Named name s (mem binds w t)) → x ≡ as_global (plus (place name g.W.F.globals))
-          held g = e ∙ ap as_global (g.rel.names.in_globals name g.known)
+          held g = q ∙ ap as_global (g.rel.names.in_globals name g.known)
 
           -- what captures nothing
           found : (g : Named name s (mem binds w t)) (o : Outer) → x ≡ res_of g.W.M (outside o) → ((i : ℕ) → captures_found i g.ss (outside o) ≡ false) → Small g.W.M (outside o) → FoundBelow (length g.st.made) (outside o)
               → Found' g.W g.env g.ss (caps g.st) (outside o, g.st) (record { st = s; res = x }) (mem binds w t)
-          found g o q c small below =
-              record {
-                rel = record { over = λ f. never_both f g.not_full; rel = λ _. rel_caps g.rel _ (λ i. sym (rw (c i) (or-false (caps g.st i)))) };
-                is = λ _. q;
-                small = λ _. small;
-                below = λ _. below;
-              }
+          found g o q c small below = record { rel = rel_caps g.rel _ (λ i. sym (rw (c i) (or-false (caps g.st i)))); is = q; small = small; below = below }
 
           go : (g : Named name s (mem binds w t)) → Opened (place name g.W.F.globals)
               → Found' g.W g.env g.ss (caps g.st) (outside (globally (place name g.W.F.globals)), g.st) (record { st = s; res = x }) (mem binds w t)

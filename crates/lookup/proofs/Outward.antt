@@ -23,7 +23,6 @@ use Rattle.store.specs.Rel.{Rel, caps}
 use Rattle.store.proofs.Laws.Points.{absent_past}
 use Rattle.store.proofs.Laws.Made.{made_few, made_slot}
 use Rattle.lookup.specs.Lookup.{res_of, Small, InModule, ModuleDone}
-use Rattle.store.proofs.Laws.Full.{never_both}
 use Rattle.lookup.proofs.Captures.{rel_noted, rel_unnoted}
 
 -- ---- the module
@@ -57,7 +56,7 @@ module _ {i : ℕ} {s : State} {binds : List ℕ} where
   pub module_few : InModule i s binds → i < 2304
   module_few g = let x = bound g in made_few g.rel.image.made i x.b x.stands
 
-  module _ (k : ℕ) (e-slot : k ≡ binding_slot (get_or binds i 0)) (id : BindingId) (e-id : id.0 ≡ i) where
+  module _ {k : ℕ} (e-slot : k ≡ binding_slot (get_or binds i 0)) (id : BindingId) (e-id : id.0 ≡ i) where
     module_slot_lem : (g : InModule i s binds) → k ≡ slot_of (get_elem? g.W.M i)
     unfolding slot_of
     module_slot_lem g = let x = bound g in rw x.listed (e-slot ∙ made_slot g.rel.image.made i x.b x.stands)
@@ -68,17 +67,17 @@ module _ {i : ℕ} {s : State} {binds : List ℕ} where
     module_found binds' r =
         record {
           right = λ g. let x = bound g in record {
-            rel = record { over = λ f. never_both f g.not_full; rel = λ _. r g };
-            is = λ _. ap₂ (λ (n j : ℕ). res.Slot (slot.Module (record { 0 = n })) (record { 0 = j })) (module_slot_lem g) e-id;
-            small = λ _. rw (← module_slot_lem g) (omega arith);
-            below = λ _. at-below g.st.made i x.b x.stands;
+            rel = r g;
+            is = ap₂ (λ (n j : ℕ). res.Slot (slot.Module (record { 0 = n })) (record { 0 = j })) (module_slot_lem g) e-id;
+            small = rw (← module_slot_lem g) (omega arith);
+            below = at-below g.st.made i x.b x.stands;
           };
         }
 
     pub module_outside : s.level ≡ 0 → ModuleDone i s binds (record { st = s; res = res.Slot (slot.Module (record { 0 = k })) id }) binds
     module_outside z = module_found binds (λ g. rel_unnoted g.rel i _ (outermost s.level g.ss g.rel.around.level_is z))
 
-    pub module_inside : (s.level ≡ 0 → ⊥) → 2304 ≤ length binds → (binds' : List ℕ) → binds' ≡ set binds i (captured_word (get_or binds i 0))
+    pub module_inside : {binds' : List ℕ} → (s.level ≡ 0 → ⊥) → 2304 ≤ length binds → binds' ≡ set binds i (captured_word (get_or binds i 0))
         → ModuleDone i s binds (record { st = s; res = res.Slot (slot.Module (record { 0 = k })) id }) binds'
-    module_inside z long binds' e =
+    module_inside {binds' = binds'} z long e =
         module_found binds' (λ g. let x = bound g in rw e (rel_noted g.rel i _ (further_in s.level g.ss g.rel.around.level_is z) long (at-below g.st.made i x.b x.stands)))

@@ -1,28 +1,9 @@
 // A local's slot in a scope: at hand there, or brought to the scope outside and copied from there.
-ghost use Rattle.std.specs.Prelude.{◌≡◌, true};
 ghost use Rattle.store.specs.Sections.{mem, Long};
 ghost use Rattle.lookup.specs.Bring.{Copying, Copied, Bringing, Brings};
 
 use answer::{BindingId, LocalSlotId, ScopeId};
-use store::{Brought, Hand, State};
-
-// There is no room for a slot.
-fn no_room(st: State) -> Brought
-    ensures { result.st.full ≡ true }
-{
-    let s = State {
-        bindings: st.bindings,
-        slots: st.slots,
-        copies: st.copies,
-        errors: st.errors,
-        level: st.level,
-        full: true,
-    };
-    Brought {
-        st: s,
-        slot: LocalSlotId(0),
-    }
-}
+use store::{Brought, Full, State, Table, Words};
 
 // A binding's slot in the scope outside is copied into a fresh slot of this scope.
 fn copy_parent(
@@ -31,34 +12,30 @@ fn copy_parent(
     id: BindingId,
     st: State,
     binds: &[u64],
-    w: &mut [u32],
-    t: &mut [u16],
-) -> Brought
+    w: &mut Words,
+    t: &mut Table,
+) -> Result<Brought, Full>
     requires { Long (mem binds.now w.old t.old) × Copying scope.0 parent.0 id.0 st (mem binds.now w.old t.old) }
     ensures { Copied scope.0 parent.0 id.0 st (mem binds.now w.old t.old) result (mem binds.now w.new t.new) }
 {
     let c = st.copies;
     let k = st.slots;
     if k >= answer::SLOTS {
-        return no_room(st);
+        return Err(Full);
     }
     let child = store::fresh_slot(w, scope.0);
     let name = store::name_of(binds, id.0);
     store::put_copy(w, c, scope.0, parent.0, child);
     store::put_slot(w, k, scope.0, name);
     store::link_slot(t, k, id.0, child);
-    let s = State {
-        bindings: st.bindings,
-        slots: k + 1,
-        copies: c + 1,
-        errors: st.errors,
-        level: st.level,
-        full: st.full,
-    };
-    Brought {
-        st: s,
+    Ok(Brought {
+        st: State {
+            slots: k + 1,
+            copies: c + 1,
+            ..st
+        },
         slot: LocalSlotId(child),
-    }
+    })
 }
 
 // A local's slot in the scope at a level.
@@ -67,28 +44,20 @@ pub fn bring(
     id: BindingId,
     st: State,
     binds: &[u64],
-    w: &mut [u32],
-    t: &mut [u16],
-) -> Brought
+    w: &mut Words,
+    t: &mut Table,
+) -> Result<Brought, Full>
     requires { Long (mem binds.now w.old t.old) × Bringing level id.0 st (mem binds.now w.old t.old) }
     ensures { Brings level id.0 st (mem binds.now w.old t.old) result (mem binds.now w.new t.new) }
 {
     let scope = store::scope_at_level(t, level);
-    let h = store::hand(w, t, scope, id.0);
-    match h {
-        Hand::At(k) => Brought { st: st, slot: k },
-        Hand::Nothing => {
-            if level == 0 {
-                let own = store::slot_of(binds, id.0);
-                return copy_parent(ScopeId(scope), LocalSlotId(own), id, st, binds, w, t);
-            }
-            let r = bring(level - 1, id, st, binds, w, t);
-            let s = r.st;
-            if s.full {
-                return r;
-            }
-            let p = r.slot;
-            copy_parent(ScopeId(scope), p, id, s, binds, w, t)
-        }
+    if let Some(slot) = store::hand(w, t, scope, id.0) {
+        return Ok(Brought { st, slot });
     }
+    if level == 0 {
+        let own = store::slot_of(binds, id.0);
+        return copy_parent(ScopeId(scope), LocalSlotId(own), id, st, binds, w, t);
+    }
+    let outside = bring(level - 1, id, st, binds, w, t)?;
+    copy_parent(ScopeId(scope), outside.slot, id, outside.st, binds, w, t)
 }

@@ -1,16 +1,2 @@
-// Cells that mark the numbers met so far (specs/Marks), and what a cell or a byte holds as a place.
+// The account of the numbers met so far stands in specs/ (Marks): this crate has no code.
 #![tactic(auto)]
-
-ghost use Rattle.std.specs.Prelude.{◌≡◌, ◌<◌};
-
-pub fn byte(x: u8) -> usize
-    ensures { (result ≡ x) × (result < 256) }
-{
-    x as usize
-}
-
-pub fn place(x: u16) -> usize
-    ensures { result ≡ x }
-{
-    x as usize
-}

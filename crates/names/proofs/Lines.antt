@@ -1,17 +1,19 @@
 -- Number 6: the name numbers of a list, line by line.
-use Prim.Native.Nat.{ℕ, suc, ◌+◌, ◌≤◌, ◌<◌}
+use Prim.Native.Nat.{ℕ, zero, suc, ◌+◌, ◌≤◌, ◌<◌}
 use mathlib.Core.Path.{◌≡◌, refl, sym, ap, ◌∙◌, subst}
 use mathlib.Core.Logic.{inl, ⊎_elim}
 use mathlib.Core.List.{List, [], ◌∷◌, ◌++◌}
 use native.Mathlib.Omega.{arith}
-use lib.ListN.{length, get_or, set, replicate, length-set, length-replicate}
+use lib.ListN.{length, get_or, set, replicate, length-set, length-replicate, get_or-map, length-map}
+use Rattle.std.specs.Prelude.{Bool, true, false, map}
+use Rattle.std.proofs.lemmas.List.{map-set}
 use native.Mathlib.Numerals.{add-one}
 use Rattle.base.specs.UpTo.{up_to, up_to_snoc, up_to_front}
 use Rattle.lexical.specs.Places.{In, Distinct, in_snoc, in_left, in_right, distinct_left}
 use Rattle.nodefile.specs.Layout.{name_count}
 use Rattle.nodefile.specs.FileOf.{entry_names, global_names}
 use Rattle.names.specs.Lists.{BadList, no_such_name, twice, BadLists, bad_entry, bad_global}
-use Rattle.marks.specs.Marks.{Marked, Set, zeros, marked_none, marked_more, marked_again}
+use Rattle.marks.specs.Marks.{Marked, Set, marked_none, marked_more, marked_again}
 
 -- line k and the lines before it
 module _ (f : ℕ → ℕ) (k n : ℕ) (h : k < n) where
@@ -24,30 +26,40 @@ module _ (f : ℕ → ℕ) (k n : ℕ) (h : k < n) where
   pub up_to_distinct : Distinct (up_to f n) → Distinct (up_to f k ++ (f k ∷ []))
   up_to_distinct d = distinct_left (up_to f k ++ (f k ∷ [])) front.0 (subst Distinct front.1 d)
 
+-- a mark as a number
+abbrev pub mark : Bool → ℕ
+mark false = 0
+mark true = 1
+
 -- the marks after k lines
-pub record Lines (names : ℕ) (seen : List ℕ) (f : ℕ → ℕ) (k : ℕ) : Type 0 where
+pub record Lines (names : ℕ) (seen : List Bool) (f : ℕ → ℕ) (k : ℕ) : Type 0 where
   pub size : length seen ≡ 1024
   pub known : (x : ℕ) → In x (up_to f k) → x < names
-  pub marks : Marked Set seen (up_to f k)
+  pub marks : Marked Set (map mark seen) (up_to f k)
 
-pub lines_none : (names : ℕ) (f : ℕ → ℕ) → Lines names (replicate 1024 0) f 0
+no_marks : (n v : ℕ) → get_or (map mark (replicate n false)) v 0 ≡ 0
+no_marks zero v = refl
+no_marks (suc n) zero = refl
+no_marks (suc n) (suc v) = no_marks n v
+
+pub lines_none : (names : ℕ) (f : ℕ → ℕ) → Lines names (replicate 1024 false) f 0
 unfolding up_to
-lines_none names f = record { size = length-replicate {A = ℕ} 1024 0; known = λ x h. absurd h; marks = marked_none _ (λ v h. h (zeros 1024 v)) }
+lines_none names f = record { size = length-replicate {A = Bool} 1024 false; known = λ x h. absurd h; marks = marked_none _ (λ v h. h (no_marks 1024 v)) }
 
-module _ {names : ℕ} {seen : List ℕ} {f : ℕ → ℕ} {k : ℕ} (l : Lines names seen f k) where
+module _ {names : ℕ} {seen : List Bool} {f : ℕ → ℕ} {k : ℕ} (l : Lines names seen f k) where
   -- line k has a known name, which is not marked
-  pub lines_more : {v : ℕ} → v ≡ f k → v < names → names ≤ 1024 → get_or seen v 0 ≡ 0 → Lines names (set seen v 1) f (k + 1)
+  pub lines_more : {v : ℕ} → v ≡ f k → v < names → names ≤ 1024 → get_or seen v false ≡ false → Lines names (set seen v true) f (k + 1)
   lines_more {v} e h b u =
       let more : up_to f (k + 1) ≡ up_to f k ++ (v ∷ []) = ap (up_to f) (add-one k) ∙ up_to_snoc f k ∙ ap (λ (x : ℕ). up_to f k ++ (x ∷ [])) (sym e) in
       record {
-        size = length-set seen v 1 ∙ l.size;
+        size = length-set seen v true ∙ l.size;
         known = λ x i. ⊎_elim (l.known x) (λ q. omega arith) (in_snoc x v (up_to f k) (subst (In x) more i));
-        marks = subst (Marked Set (set seen v 1)) (sym more) (marked_more l.marks v 1 (omega (arith, l.size)) (λ q. omega arith) (λ n. n u));
+        marks = rw (map-set mark seen v true) (subst (Marked Set (set (map mark seen) v 1)) (sym more) (marked_more l.marks v 1 (omega (arith, l.size, length-map seen mark)) (λ q. omega arith) (λ n. n (get_or-map mark seen v false ∙ ap mark u))));
       }
 
   -- its name is marked
-  pub lines_twice : {v : ℕ} (n : ℕ) → v ≡ f k → k < n → (get_or seen v 0 ≡ 0 → ⊥) → BadList names (up_to f n)
-  lines_twice {v} n e h u = twice (λ d. marked_again l.marks v u [] (subst (λ (x : ℕ). Distinct (up_to f k ++ (x ∷ []))) (sym e) (up_to_distinct f k n h d)))
+  pub lines_twice : {v : ℕ} (n : ℕ) → v ≡ f k → k < n → get_or seen v false ≡ true → BadList names (up_to f n)
+  lines_twice {v} n e h u = twice (λ d. marked_again l.marks v (λ z. absurd (omega (arith, z, get_or-map mark seen v false ∙ ap mark u))) [] (subst (λ (x : ℕ). Distinct (up_to f k ++ (x ∷ []))) (sym e) (up_to_distinct f k n h d)))
 
   pub lines_all : (n : ℕ) → k ≡ n → BadList names (up_to f n) → ⊥
   lines_all n e (no_such_name x i h) = omega (arith, l.known x (subst (λ (m : ℕ). In x (up_to f m)) (sym e) i))

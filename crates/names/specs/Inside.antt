@@ -1,3 +1,2 @@
 -- What the contracts of the functions inside the crate cite; nothing of it is needed to read what judging answers.
-pub mod Line
 pub mod Chain

@@ -1,41 +1,30 @@
 // Number 6: module entries and globals.
-ghost use Rattle.std.specs.Prelude.{◌≡◌, ◌≤◌};
+ghost use Rattle.std.specs.Prelude.{◌≡◌, ◌≤◌, ◌<◌, ℕ};
 ghost use Rattle.base.specs.Says.{Says};
 ghost use Rattle.base.specs.UpTo.{up_to};
 ghost use Rattle.nodefile.specs.Limits.{many_names};
 ghost use Rattle.names.specs.Lists.{BadList};
-ghost use Rattle.names.specs.Inside.Line.{line_of};
 
-const MOST_NAMES: usize = 1024;
+use nodefile::MOST_NAMES;
 
-// The name number of line k of the module entries, if entries, or of the globals.
-fn line(part: &[u8], entries: bool, k: usize) -> u64
-    ensures { result ≡ line_of part.now entries k }
+// Whether one of the n lines, whose name numbers name_of gives, has no such name, or a name stands twice among them.
+pub fn bad_list<F: Fn(usize) -> u64>(name_of: F, n: usize, names: u64) -> bool
+    requires known { names ≤ many_names }
+    requires callable { F.IsAlwaysCallable name_of }
+    ensures { (f : ℕ → ℕ) → ((k r : ℕ) → k < n → F.post name_of k r → r ≡ f k) → Says result (BadList names (up_to f n)) }
 {
-    if entries {
-        return nodefile::entry_name(part, k);
-    }
-    nodefile::global_name(part, k)
-}
-
-// Whether one of the n lines has no such name, or a name stands twice among them.
-pub fn bad_list(part: &[u8], entries: bool, n: usize, names: u64) -> bool
-    requires { (n ≤ 256) × (names ≤ many_names) }
-    ensures { Says result (BadList names (up_to (line_of part.now entries) n)) }
-{
-    let mut seen = [0u8; MOST_NAMES];
-    let mut k: usize = 0;
-    while k < n {
-        let name = line(part, entries, k);
+    // the names met, in fixed memory: a set of std would need a heap
+    let mut seen = [false; MOST_NAMES];
+    for k in 0..n {
+        let name = name_of(k);
         if name >= names {
             return true;
         }
         let v = name as usize;
-        if seen[v] != 0 {
+        if seen[v] {
             return true;
         }
-        seen[v] = 1;
-        k += 1;
+        seen[v] = true;
     }
     false
 }

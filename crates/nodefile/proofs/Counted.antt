@@ -1,28 +1,33 @@
--- Counting the numbers that pass a test, one after the other.
-use Prim.Native.Nat.{ℕ, ◌+◌, ◌≤◌}
-use mathlib.Core.Path.{◌≡◌, refl}
-use mathlib.Core.Bool.{Bool, true, false}
-use native.Mathlib.Numerals.{add-one}
-use native.Mathlib.Omega.{arith}
-use Rattle.base.specs.UpTo.{tally}
+-- The numbers from 0 on that pass a test, as an iterator counts them, are as many as `tally` says, and no more than the numbers.
+use Rattle.std.specs.Prelude.{ℕ, zero, suc, ◌+◌, ◌<◌, ◌≡◌, refl, Bool, true, false, cond, List, ◌∷◌, length, filter}
+use Rattle.std.proofs.Common.{sym, ap, ◌∙◌, arith, zero-add}
+use Rattle.std.specs.List.{range_with_len}
+use Rattle.std.proofs.lemmas.List.Sums.{length-filter, count_by-le-length}
+use Rattle.std.proofs.lemmas.List.FromFn.{length-range_with_len}
+use Rattle.base.specs.UpTo.{tally, tally-front}
+use Rattle.nodefile.specs.Node.{Is}
 
--- s of the numbers below i pass
-pub record Counted (p : ℕ → Bool) (i s : ℕ) : Type 0 where
-  pub few : s ≤ i
-  pub is : s ≡ tally p i
+one : (b : Bool) (x : ℕ) (xs : List ℕ) → length (cond b (x ∷ xs) xs) ≡ cond b (suc (length xs)) (length xs)
+one true x xs = refl
+one false x xs = refl
 
-pub counted_none : (p : ℕ → Bool) → Counted p 0 0
+shift : (a i : ℕ) → a + 1 + i ≡ a + suc i
+shift a i = omega arith
+
+none : (a : ℕ) → a ≡ a + 0
+none a = omega arith
+
+tally_range : (p : ℕ → Bool) (a n : ℕ) → length (filter p (range_with_len a n)) ≡ tally (λ i. p (a + i)) n
 unfolding tally
-counted_none p = record { few = omega arith; is = refl }
+tally_range p a zero = refl
+tally_range p a (suc n) =
+    let k : length (filter p (range_with_len (a + 1) n)) ≡ tally (λ i. p (a + suc i)) n = tally_range p (a + 1) n ∙ simp shift in
+    one (p a) a (filter p (range_with_len (a + 1) n))
+    ∙ rw k (ap (λ (x : ℕ). cond (p x) (suc (tally (λ i. p (a + suc i)) n)) (tally (λ i. p (a + suc i)) n)) (none a))
+    ∙ sym (tally-front (λ i. p (a + i)) n)
 
-module _ {p : ℕ → Bool} {i s : ℕ} (m : Counted p i s) where
-  pub counted-one : p i ≡ true → Counted p (i + 1) (s + 1)
-  unfolding tally
-  counted-one e = record { few = omega (arith, m.few); is = rw (add-one i, add-one s) (simp (e) (rw m.is refl)) }
-
-  pub counted-not : p i ≡ false → Counted p (i + 1) s
-  unfolding tally
-  counted-not e = record { few = omega (arith, m.few); is = rw (add-one i) (simp (e) m.is) }
-
-  pub counted_end : {n : ℕ} → i ≤ n → n ≤ i → s ≡ tally p n
-  counted_end {n} h l = let e : i ≡ n = omega arith in rw (← e) m.is
+pub counted_is : (p : ℕ → Bool) (n m r : ℕ) → n < m → r ≡ length (filter p (range_with_len 0 n)) → Is (tally p n) m r
+counted_is p n m r h e = record {
+  is = e ∙ tally_range p 0 n ∙ simp zero-add;
+  below = omega (arith, e, length-filter p (range_with_len 0 n), count_by-le-length p (range_with_len 0 n), length-range_with_len 0 n);
+}

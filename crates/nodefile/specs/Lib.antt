@@ -1,4 +1,5 @@
 pub mod Node
+pub mod Kinds
 pub mod Layout
 pub mod Limits
 pub mod Lists

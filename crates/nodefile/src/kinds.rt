@@ -1,51 +1,133 @@
-// The kinds of nodes, by name (document 01, "The node file").
-ghost use Rattle.std.specs.Prelude.{◌≡◌};
+// The kinds of nodes (document 01, "The node file"), and which of them stand in one another's places.
+ghost use Rattle.std.specs.Prelude.{◌≡◌, ◌&&◌, eqb, ltb};
+ghost use Rattle.nodefile.specs.Kinds.{Numbered, KindIs, RoleIs, HasRole, number};
 ghost use Rattle.nodefile.specs.Listed.{is_scope};
+ghost use Rattle.nodefile.specs.Node.{kind_of, size_of};
 
-pub const BLOCK: u64 = 0;
+// What a node is. In a file it is a number of five bits.
+#[derive(Clone, Copy, Debug, PartialEq, Eq)]
+pub enum Kind {
+    Block,
+    Plain,
+    Assign,
+    Modify,
+    If,
+    For,
+    Def,
+    Load,
+    Name,
+    Tuple,
+    Place,
+    Ident,
+    Lambda,
+    Compr,
+    Other,
+    ForClause,
+    IfClause,
+    Param,
+    Type,
+}
 
-pub const PLAIN: u64 = 1;
+// A number that is no kind's.
+#[derive(Clone, Copy, Debug, PartialEq, Eq)]
+pub struct NoKind(pub u64);
 
-pub const ASSIGN: u64 = 2;
+impl TryFrom<u64> for Kind {
+    type Error = NoKind;
 
-pub const MODIFY: u64 = 3;
+    ghost try_from_gives = { Numbered };
 
-pub const IF: u64 = 4;
+    fn try_from(number: u64) -> Result<Self, NoKind> {
+        match number {
+            0 => Ok(Kind::Block),
+            1 => Ok(Kind::Plain),
+            2 => Ok(Kind::Assign),
+            3 => Ok(Kind::Modify),
+            4 => Ok(Kind::If),
+            5 => Ok(Kind::For),
+            6 => Ok(Kind::Def),
+            7 => Ok(Kind::Load),
+            8 => Ok(Kind::Name),
+            9 => Ok(Kind::Tuple),
+            10 => Ok(Kind::Place),
+            11 => Ok(Kind::Ident),
+            12 => Ok(Kind::Lambda),
+            13 => Ok(Kind::Compr),
+            14 => Ok(Kind::Other),
+            15 => Ok(Kind::ForClause),
+            16 => Ok(Kind::IfClause),
+            17 => Ok(Kind::Param),
+            18 => Ok(Kind::Type),
+            _ => Err(NoKind(number)),
+        }
+    }
+}
 
-pub const FOR: u64 = 5;
+// What a node stands for where others hold it; nodes of one role have one function in each walk.
+#[derive(Clone, Copy, Debug, PartialEq, Eq)]
+pub enum Role {
+    Statement,
+    Target,
+    Expression,
+    Clause,
+    Parameter,
+    Type,
+}
 
-pub const DEF: u64 = 6;
+impl Kind {
+    pub fn role(self) -> Role
+        ensures { RoleIs (number self) result }
+    {
+        match self {
+            Kind::Block
+            | Kind::Plain
+            | Kind::Assign
+            | Kind::Modify
+            | Kind::If
+            | Kind::For
+            | Kind::Def
+            | Kind::Load => Role::Statement,
+            Kind::Name | Kind::Tuple | Kind::Place => Role::Target,
+            Kind::Ident | Kind::Lambda | Kind::Compr | Kind::Other => Role::Expression,
+            Kind::ForClause | Kind::IfClause => Role::Clause,
+            Kind::Param => Role::Parameter,
+            Kind::Type => Role::Type,
+        }
+    }
+}
 
-pub const LOAD: u64 = 7;
+// The kind of the node that t starts with; none if its number is no kind's.
+pub fn of(t: &[u8]) -> Option<Kind>
+    ensures { KindIs (kind_of t.now) result }
+{
+    Kind::try_from(crate::kind(t)).ok()
+}
 
-pub const NAME: u64 = 8;
+// The role of the node that t starts with.
+pub fn role_of(t: &[u8]) -> Option<Role>
+    ensures { HasRole (kind_of t.now) result }
+{
+    of(t).map(|kind| kind.role())
+}
 
-pub const TUPLE: u64 = 9;
-
-pub const PLACE: u64 = 10;
-
-pub const IDENT: u64 = 11;
-
-pub const LAMBDA: u64 = 12;
-
-pub const COMPR: u64 = 13;
-
-pub const OTHER: u64 = 14;
-
-pub const FOR_CLAUSE: u64 = 15;
-
-pub const IF_CLAUSE: u64 = 16;
-
-pub const PARAM: u64 = 17;
-
-pub const TYPE: u64 = 18;
-
-// Whether a kind has a scope of its own: Def and Lambda.
+// Whether the kind with this number has a scope of its own: Def and Lambda.
+#[tactic(auto, unfolding(lexical::specs::Tree::way, lexical::specs::Tree::is_fn))]
 pub fn is_scope(kind: u64) -> bool
     ensures { result ≡ is_scope kind }
 {
-    if kind == DEF {
-        return true;
-    }
-    kind == LAMBDA
+    matches!(Kind::try_from(kind), Ok(Kind::Def | Kind::Lambda))
+}
+
+// Whether the node that t starts with has one.
+pub fn has_scope(t: &[u8]) -> bool
+    ensures { result ≡ is_scope (kind_of t.now) }
+{
+    is_scope(crate::kind(t))
+}
+
+// Whether t starts with a Param that has a Name.
+pub fn is_named_param(t: &[u8]) -> bool
+    ensures { result ≡ (eqb (kind_of t.now) 17 && ltb 1 (size_of t.now)) }
+{
+    of(t) == Some(Kind::Param) && crate::size(t) > 1
 }

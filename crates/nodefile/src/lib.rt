@@ -4,6 +4,9 @@
 pub mod kinds;
 pub mod node;
 
+// How many names a file may have (document 01, number 3; specs/Limits, many_names).
+pub const MOST_NAMES: usize = 1024;
+
 ghost use Rattle.std.specs.Prelude.{◌≡◌, ◌+◌, ◌*◌, ◌^◌, ◌≤◌, ◌<◌};
 ghost use Rattle.bits.specs.Field.{field_of};
 ghost use Rattle.nodefile.specs.Node.{Is, kind_of, node_zero, size_of, value_of, source_of};
@@ -51,6 +54,7 @@ pub fn version(file: &[u8]) -> u64
     bits::field(file, 0, 4)
 }
 
+// As a number, as of `entry_public`: each clause is of the field's number.
 pub fn reexport(file: &[u8]) -> u64
     ensures { Is (reexport file.now) 2 result }
 {
@@ -175,7 +179,7 @@ pub fn name_length(nm: &[u8], k: usize) -> u64
     record_field(nm, 3, k, 16, 8)
 }
 
-// The spelling of name k.
+// The spelling of name k. (Names and pool are two parts of the file, and the clauses speak of each.)
 pub fn spelled<'a>(nm: &[u8], pool: &'a [u8], k: usize) -> &'a [u8]
     ensures { result.now ≡ spelled nm.now pool.now k }
 {
@@ -190,11 +194,7 @@ pub fn spelled<'a>(nm: &[u8], pool: &'a [u8], k: usize) -> &'a [u8]
 pub fn hidden(nm: &[u8], pool: &[u8], k: usize) -> bool
     ensures { result ≡ hidden nm.now pool.now k }
 {
-    let s = spelled(nm, pool, k);
-    if s.len() == 0 {
-        return false;
-    }
-    s[0] == 95
+    spelled(nm, pool, k).first() == Some(&95)
 }
 
 pub fn entry_name(es: &[u8], k: usize) -> u64

@@ -10,8 +10,9 @@ use Rattle.base.specs.Says.{unless}
 use Rattle.base.specs.UpTo.{up_to_length}
 use Rattle.nodefile.specs.Layout.{node_count, global_count, nodes_of}
 use Rattle.answer.specs.declared.Answer.{Answer}
+use Rattle.answer.specs.Refused.{refusal}
 use Rattle.answer.specs.Buffers.{Buffers, Zeroed, short_nodes}
-use Rattle.scope.specs.Answer.{resolving, refusal, Resolves}
+use Rattle.scope.specs.Answer.{resolving, Resolves}
 use Rattle.group.specs.Grouped.{Room, answered}
 use Rattle.readers.specs.Keys.{key_at, keys_of}
 use Rattle.readers.specs.Lists.{Lists, ShortLists, Cleared, short_starts, short_counts, short_list, short_global_starts, short_global_counts, short_global_list}

@@ -1,51 +1,25 @@
-// The keys by which the nodes are grouped: one more than the binding, or the global, that an Ident is resolved to.
+// The keys by which the nodes are grouped: one more than the binding, or the global, that an Ident is resolved to, and 0 for none, as `group` takes them.
 ghost use Rattle.std.specs.Prelude.{◌≡◌, ◌≤◌, length};
 ghost use Rattle.base.specs.UpTo.{up_to};
-ghost use Rattle.readers.specs.Keys.{of_binding, binding_key, global_key, key_of, key_at};
+ghost use Rattle.nodefile.specs.Node.{kind_of};
+ghost use Rattle.readers.specs.Keys.{key_of, key_at};
 
-use nodefile::kinds;
+use answer::NodeClass;
+use nodefile::kinds::{self, Kind};
 
-// Whether a class names a binding: module or local.
-fn of_binding(class: u64) -> bool
-    ensures { result ≡ of_binding class }
+// The key of the node that t starts with, by its record r: only an Ident has one.
+// Whether the globals are asked for stays a bool: it guards the match alone, and `key_of` and its theorems take it so.
+fn key(globals: bool, t: &[u8], r: u32) -> u32
+    ensures { result ≡ key_of globals (kind_of t.now) r }
 {
-    if class == answer::node::MODULE {
-        return true;
-    }
-    class == answer::node::LOCAL
-}
-
-// The key among the bindings, off the record of an Ident.
-fn binding_key(r: u32) -> u32
-    ensures { result ≡ binding_key r }
-{
-    if of_binding(answer::node::class(r)) {
-        return (answer::node::binding(r) + 1) as u32;
-    }
-    0
-}
-
-// The key among the globals.
-fn global_key(r: u32) -> u32
-    ensures { result ≡ global_key r }
-{
-    if answer::node::class(r) == answer::node::GLOBAL {
-        return (answer::node::slot(r) + 1) as u32;
-    }
-    0
-}
-
-// The key of a node, by its kind and record: only an Ident has one.
-fn key(globals: bool, kind: u64, r: u32) -> u32
-    ensures { result ≡ key_of globals kind r }
-{
-    if kind != kinds::IDENT {
+    if kinds::of(t) != Some(Kind::Ident) {
         return 0;
     }
-    if globals {
-        return global_key(r);
+    match answer::node::class(r) {
+        NodeClass::Global if globals => (answer::node::slot(r) + 1) as u32,
+        NodeClass::Module | NodeClass::Local if !globals => (answer::node::binding(r) + 1) as u32,
+        _ => 0,
     }
-    binding_key(r)
 }
 
 // The keys of the nodes in the list, by the nodes' records.
@@ -53,10 +27,7 @@ pub fn put_keys(globals: bool, list: &[u8], nodes: &[u32], keys: &mut [u32])
     requires { length keys.old ≤ length nodes.now }
     ensures { keys.new ≡ up_to (key_at globals list.now nodes.now) (length keys.old) }
 {
-    let mut i = 0;
-    while i < keys.len() {
-        let kind = nodefile::kind(nodefile::node::node(list, i));
-        keys[i] = key(globals, kind, nodes[i]);
-        i += 1;
+    for (i, to) in keys.iter_mut().enumerate() {
+        *to = key(globals, nodefile::node::node(list, i), nodes[i]);
     }
 }

@@ -1,30 +1,30 @@
 // Every reader of a variable: the Idents that are resolved to each binding, and to each global, in node order.
+// The buffers stay parameters of their own: the C call lends them so, each as long as its caller likes.
 #![tactic(auto)]
 
-mod clear;
 mod keys;
 
-ghost use Rattle.std.specs.Prelude.{◌≡◌, ◌≤◌, length};
+ghost use Rattle.std.specs.Prelude.{◌≤◌, length};
 ghost use Rattle.base.specs.Says.{Says};
 ghost use Rattle.base.specs.UpTo.{up_to};
 ghost use Rattle.answer.specs.Buffers.{buffers};
-ghost use Rattle.scope.specs.Answer.{refusal};
 ghost use Rattle.group.specs.Grouped.{Answers};
 ghost use Rattle.readers.specs.Keys.{key_at, keys_of};
-ghost use Rattle.readers.specs.Lists.{lists, ShortListsOf};
+ghost use Rattle.readers.specs.Lists.{lists, Cleared, ShortListsOf};
 ghost use Rattle.readers.specs.Readers.{Readers};
 ghost use Rattle.readers.specs.Steps.{Kept, Listed};
 
 use answer::Answer;
+use base::Refusal;
 
 // How long the buffers must be: the starts and counts of the bindings, those of the globals, and either list.
-pub const BINDINGS: usize = 2304;
+pub const BINDINGS: usize = answer::BINDINGS;
 
 pub const GLOBALS: usize = 256;
 
-pub const LIST: usize = 2048;
+pub const LIST: usize = answer::NODES;
 
-// One group, with room for the keys.
+// One group, with room for the keys. (`globals` is handed on to the keys, whose theorems take it as a Bool.)
 fn group_keys(
     globals: bool,
     nodelist: &[u8],
@@ -61,7 +61,7 @@ fn group_nodes(
         globals,
         nodefile::nodes(file),
         nodes,
-        &mut keys[0..n],
+        &mut keys[..n],
         buckets,
         starts,
         counts,
@@ -108,38 +108,31 @@ fn short(
 ) -> bool
     ensures { Says result (ShortListsOf starts counts list gstarts gcounts glist) }
 {
-    if starts < BINDINGS {
-        return true;
-    }
-    if counts < BINDINGS {
-        return true;
-    }
-    if list < LIST {
-        return true;
-    }
-    if gstarts < GLOBALS {
-        return true;
-    }
-    if gcounts < GLOBALS {
-        return true;
-    }
-    if glist < LIST {
-        return true;
-    }
-    false
+    starts < BINDINGS
+        || counts < BINDINGS
+        || list < LIST
+        || gstarts < GLOBALS
+        || gcounts < GLOBALS
+        || glist < LIST
 }
 
-fn refused(number: u64) -> Answer
-    ensures { result ≡ refusal number }
+// Zeros into the six buffers of the readers.
+fn clear_lists(
+    starts: &mut [u32],
+    counts: &mut [u32],
+    list: &mut [u32],
+    global_starts: &mut [u32],
+    global_counts: &mut [u32],
+    global_list: &mut [u32],
+)
+    ensures { Cleared (lists starts.old counts.old list.old global_starts.old global_counts.old global_list.old) (lists starts.new counts.new list.new global_starts.new global_counts.new global_list.new) }
 {
-    Answer {
-        number: number,
-        bindings: 0,
-        module: 0,
-        slots: 0,
-        copies: 0,
-        errors: 0,
-    }
+    starts.fill(0);
+    counts.fill(0);
+    list.fill(0);
+    global_starts.fill(0);
+    global_counts.fill(0);
+    global_list.fill(0);
 }
 
 // The file resolved, and the Idents that are resolved to each binding and to each global; 0 and the records, or the number of a refusal and zeros.
@@ -169,7 +162,7 @@ pub fn readers(
         global_counts.len(),
         global_list.len(),
     );
-    clear::clear_lists(
+    clear_lists(
         starts,
         counts,
         list,
@@ -182,8 +175,8 @@ pub fn readers(
         return a;
     }
     if few {
-        clear::clear_answer(nodes, bindings, module, scopes, slots, copies, errors);
-        return refused(13);
+        scope::clear(nodes, bindings, module, scopes, slots, copies, errors);
+        return Answer::refused(Refusal::ShortList);
     }
     group_both(
         file,

@@ -1,7 +1,7 @@
 pub mod Owners
 pub mod Held
 pub mod Fronts
-pub mod Records
+pub mod Seven
 pub mod Opening
 pub mod Passes
 pub mod Outcome

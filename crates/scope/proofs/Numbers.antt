@@ -7,18 +7,38 @@ use native.Mathlib.Decide.{dec_lt}
 use lib.ListN.{length, get_or, replicate, length-replicate}
 use Rattle.base.specs.UpTo.{up_to}
 use Rattle.base.specs.First.{First, here, later}
+use Rattle.base.specs.Refusals.{number_of}
+use Rattle.base.specs.declared.refusal.Refusal.{Refusal}
+use Rattle.base.specs.declared.refusal.Refusal.TheVariants as refusals
 use Rattle.lexical.specs.Module.{File}
 use Rattle.lexical.specs.Records.{records}
 use Rattle.store.proofs.Laws.Points.{Zeros, zeros}
 use Rattle.judge.specs.Cond.{Judged}
 use Rattle.answer.specs.declared.Answer.{Answer}
+use Rattle.answer.specs.Refused.{refusal}
 use Rattle.answer.specs.Buffers.{Buffers, Short, short_nodes, short_bindings, short_entries, short_scopes, short_slots, short_copies, short_errors, Front, Zeroed}
 use Rattle.answer.specs.Records.{binding_of, entry_of, pair_of, copy_of}
 use Rattle.scope.specs.Nodes.{node_answer}
-use Rattle.scope.specs.Answer.{ManySlots, too_many_slots, resolving, refusal, Refused, Given, Resolves}
+use Rattle.scope.specs.Answer.{ManySlots, too_many_slots, resolving, Refused, Given, Resolves}
 use Rattle.scope.specs.Accepted.{PreAccepted, Accepting, many, few}
 use Rattle.scope.specs.Laws.Conditions.{first_short, first_judged, first-walked}
 use Rattle.scope.specs.Laws.Accepts.{judged_ready, judged_tree}
+
+-- no refusal has the number 0
+refusal_some : (why : Refusal) → 0 < number_of why
+refusal_some refusals.ShortBuffer = omega arith
+refusal_some refusals.Header = omega arith
+refusal_some refusals.Counts = omega arith
+refusal_some refusals.Length = omega arith
+refusal_some refusals.Names = omega arith
+refusal_some refusals.Lists = omega arith
+refusal_some refusals.Nodes = omega arith
+refusal_some refusals.Children = omega arith
+refusal_some refusals.Depth = omega arith
+refusal_some refusals.Scopes = omega arith
+refusal_some refusals.Params = omega arith
+refusal_some refusals.ManySlots = omega arith
+refusal_some refusals.ShortList = omega arith
 
 -- ---- buffers that are cleared
 
@@ -94,8 +114,10 @@ module _ {bs : List ℕ} {b b₁ : Buffers} (z : Zeroed b b₁) where
   pub too_short : {a : Answer} → Short b → a ≡ refusal 1 → Resolves bs b a b₁
   too_short s q = refusing 1 (λ e. omega arith) q (first_short bs b s)
 
-  pub judged : {a : Answer} {n : ℕ} → (Short b → ⊥) → (n ≡ 0 → ⊥) → Judged bs n → a ≡ refusal n → Resolves bs b a b₁
-  judged {a} {n} s h j q = refusing n h q (first_judged bs b s n h j)
+  pub judged : {a : Answer} (why : Refusal) → (Short b → ⊥) → Judged bs (number_of why) → a ≡ refusal (number_of why) → Resolves bs b a b₁
+  judged {a} why s j q =
+      let h : number_of why ≡ 0 → ⊥ = λ e. omega (arith, refusal_some why) in
+      refusing (number_of why) h q (first_judged bs b s (number_of why) h j)
 
   -- an accepted file
   pub pre_accepted : (Short b → ⊥) → Judged bs 0 → PreAccepted bs b₁

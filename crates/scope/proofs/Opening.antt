@@ -30,7 +30,7 @@ use Rattle.note.specs.Noted.{Noted}
 
 -- the state before the first target
 abbrev pub opening : ℕ → State
-opening entries = record { bindings = entries; slots = 0; copies = 0; errors = 0; level = 0; full = false }
+opening entries = record { bindings = entries; slots = 0; copies = 0; errors = 0; level = 0 }
 
 -- no function has variables or parameters yet
 abbrev pub no_rows : ℕ → List Binding

@@ -19,19 +19,22 @@ use Rattle.store.specs.Sections.{mem}
 use Rattle.store.specs.Rel.{Over, too_many_slots, too_many_bindings, too_many_errors}
 use Rattle.store.proofs.Laws.Points.{Zeros, zeros}
 use Rattle.answer.specs.declared.Answer.{Answer}
+use Rattle.answer.specs.Refused.{refusal}
 use Rattle.scope.specs.declared.Walked.{Walked}
 use Rattle.answer.specs.Buffers.{Buffers, buffers}
 use Rattle.answer.specs.Records.{entry_from}
 use Rattle.scope.specs.Filled.{Filled, filled_end}
 use Rattle.scope.specs.Copied.{PreCopy, Copied}
 use Rattle.scope.specs.Ready.{Ready}
-use Rattle.scope.specs.Walks.{Ended, PreWalk, WalkDone}
-use Rattle.scope.specs.Answer.{too_many_slots, refusal, Given}
+use Rattle.std.specs.Prelude.{Ok, Err}
+use Rattle.store.specs.declared.ids.Full.{Full}
+use Rattle.scope.specs.Walks.{Finished, PreWalk, WalkDone}
+use Rattle.scope.specs.Answer.{too_many_slots, Given}
 use Rattle.scope.specs.Accepted.{PreAccepted, Accepting, many, few}
 use Rattle.scope.specs.Laws.Front.{get_past}
 use Rattle.scope.specs.Laws.Readies.{ready_made, ready_errors}
 use Rattle.scope.proofs.Numbers.{refused_with}
-use Rattle.scope.proofs.Records as fronts
+use Rattle.scope.proofs.Seven as fronts
 
 -- ---- lists of zeros
 
@@ -53,7 +56,6 @@ module _ {bs : List ℕ} {b : Buffers} (p : PreAccepted bs b) where
   pub pre_walk : PreWalk bs (take 2304 b.bindings) (replicate 12544 0)
   pre_walk = record {
     long_binds = omega (arith, length-take-le 2304 b.bindings p.roomy.bindings);
-    long_w = length-replicate {A = ℕ} 12544 0;
     blank_binds = zeros_take b.bindings 2304 p.blank.bindings;
     blank_w = zeros 12544;
     root = p.root;
@@ -61,7 +63,7 @@ module _ {bs : List ℕ} {b : Buffers} (p : PreAccepted bs b) where
   }
 
   -- the bindings' buffer when the part that was lent is back
-  module _ {r : Walked} {part w : List ℕ} (d : WalkDone bs r part w) (kept : length part ≡ length (take 2304 b.bindings)) where
+  module _ (part : List ℕ) (kept : length part ≡ length (take 2304 b.bindings)) where
     abbrev back : List ℕ
     back = part ++ drop 2304 b.bindings
 
@@ -79,13 +81,10 @@ module _ {bs : List ℕ} {b : Buffers} (p : PreAccepted bs b) where
         let e : length part + (j - length part) ≡ j = omega (arith, part_length) in
         subst (λ (i : ℕ). get_or back i 0 ≡ 0) e (get_or-append-add part (drop 2304 b.bindings) (j - length part) 0 ∙ get_or-drop 2304 b.bindings (j - length part) 0 ∙ p.blank.bindings _)
 
-    end : Ended bs p.root r.st r.module (mem part w (d.right p.root p.ready).0)
-    end = (d.right p.root p.ready).1
-
     -- a list was full
-    pub too_many : r.st.full ≡ true → {bindings' : List ℕ} → bindings' ≡ replicate (length back) 0 → {a : Answer} → a ≡ refusal 12
+    pub too_many : {e : Full} {w : List ℕ} → WalkDone bs (Err e) part w → {bindings' : List ℕ} → bindings' ≡ replicate (length back) 0 → {a : Answer} → a ≡ refusal 12
         → Accepting bs b a (buffers b.nodes bindings' b.entries b.scopes b.slots b.copies b.errors)
-    too_many f e q = many (ap (λ (x : Answer). x.number) q) (too_many_slots p.root p.ready.reads (over_slots p.ready (end.over f))) (refused_with (record {
+    too_many d e q = many (ap (λ (x : Answer). x.number) q) (too_many_slots p.root p.ready.reads (over_slots p.ready (d.right p.root p.ready).1)) (refused_with (record {
       nodes = blank_is b.nodes p.blank.nodes;
       bindings = e ∙ ap (λ (n : ℕ). replicate n 0) back-length;
       entries = blank_is b.entries p.blank.entries;
@@ -96,10 +95,12 @@ module _ {bs : List ℕ} {b : Buffers} (p : PreAccepted bs b) where
     }) q)
 
     -- none was
-    module _ (f : r.st.full ≡ false) {n : ℕ} (c : n ≡ node_count bs) where
-      pub pre_copy : length w ≡ 12544 → PreCopy w n r.st b.nodes b.scopes b.slots b.copies b.errors
-      pre_copy l = let i = end.image f in record {
-        long = l;
+    module _ {r : Walked} {w : List ℕ} (d : WalkDone bs (Ok r) part w) {n : ℕ} (c : n ≡ node_count bs) where
+      end : Finished bs p.root r (mem part w (d.right p.root p.ready).0)
+      end = (d.right p.root p.ready).1
+
+      pub pre_copy : PreCopy n r.st b.nodes b.scopes b.slots b.copies b.errors
+      pre_copy = let i = end.image in record {
         few_nodes = omega (arith, p.ready.nodes);
         few_slots = omega (arith, i.slots_are, i.slots.few);
         few_copies = omega (arith, i.copies_are, i.copies.few);
@@ -112,13 +113,27 @@ module _ {bs : List ℕ} {b : Buffers} (p : PreAccepted bs b) where
       }
 
       few_entries : r.module ≤ 2304
-      few_entries = omega (arith, end.first f, (end.image f).made.few, ap length (made_start (file_of bs p.root)).1, length-append (start (file_of bs p.root)).made (made_start (file_of bs p.root)).0)
+      few_entries = omega (arith, end.first, end.image.made.few, ap length (made_start (file_of bs p.root)).1, length-append (start (file_of bs p.root)).made (made_start (file_of bs p.root)).0)
 
-      pub pre_entries : (r.module ≤ length back) × (r.module ≤ length b.entries)
-      pre_entries = (omega (arith, few_entries, back-length, p.roomy.bindings), omega (arith, few_entries, p.roomy.entries))
+      -- the module's bindings: there are so many, with room for their entries
+      pub entries_made : r.module ≤ length back
+      entries_made = omega (arith, few_entries, back-length, p.roomy.bindings)
+
+      pub made_length : length (take r.module back) ≡ r.module
+      made_length = length-take-le r.module back entries_made
+
+      pub pre_entries : length (take r.module back) ≤ length b.entries
+      pre_entries = omega (arith, made_length, few_entries, p.roomy.entries)
+
+      made_entries : {entries : List ℕ} → Filled (λ j. entry_from (get_or (take r.module back) j 0)) (length (take r.module back)) b.entries entries → Filled (λ j. entry_from (get_or back j 0)) r.module b.entries entries
+      made_entries y = record {
+        long = y.long;
+        front = λ j h. y.front j (omega (arith, made_length)) ∙ ap entry_from (get_or-take r.module back j 0 h);
+        rest = λ j h. y.rest j (omega (arith, made_length));
+      }
 
       module _ {nodes scopes slots copies errors entries : List ℕ} (x : Copied w n r.st b.nodes b.scopes b.slots b.copies b.errors nodes scopes slots copies errors)
-          (y : Filled (λ j. entry_from (get_or back j 0)) r.module b.entries entries) where
+          (y : Filled (λ j. entry_from (get_or (take r.module back) j 0)) (length (take r.module back)) b.entries entries) where
         abbrev counts : Answer
         counts = record { number = 0; bindings = r.st.bindings; «module» = r.module; slots = r.st.slots; copies = r.st.copies; errors = r.st.errors }
 
@@ -127,15 +142,15 @@ module _ {bs : List ℕ} {b : Buffers} (p : PreAccepted bs b) where
 
         given : Given (file_of bs p.root) (node_count bs) b counts after
         unfolding rec.records
-        given = let i = end.image f in let F = file_of bs p.root in record {
+        given = let i = end.image in let F = file_of bs p.root in record {
           bindings = i.bindings_are ∙ sym (length-map (resolved F).made (rec.binding_row (resolved F).log));
-          module_entries = end.first f ∙ sym (length-map (start F).made rec.entry_row);
+          module_entries = end.first ∙ sym (length-map (start F).made rec.entry_row);
           slots = i.slots_are ∙ sym (length-map (resolved F).slots rec.slot_row);
           copies = i.copies_are ∙ sym (length-map (resolved F).copies rec.copy_row);
           errors = i.errors_are;
           nodes_hold = fronts.nodes_front p.ready i (filled_end x.of_nodes c) p.blank.nodes p.roomy.nodes;
           bindings_hold = fronts.bindings_front p.ready i back back-front (length b.bindings) back-length p.roomy.bindings back_behind;
-          entries_hold = fronts.entries_front p.ready i back back-front r.module (end.first f) y p.blank.entries p.roomy.entries;
+          entries_hold = fronts.entries_front p.ready i back back-front r.module end.first (made_entries y) p.blank.entries p.roomy.entries;
           scopes_hold = fronts.scopes_front p.ready i x.of_scopes p.blank.scopes p.roomy.scopes;
           slots_hold = fronts.slots_front p.ready i x.of_slots p.blank.slots p.roomy.slots;
           copies_hold = fronts.copies_front p.ready i x.of_copies p.blank.copies p.roomy.copies;
@@ -145,4 +160,4 @@ module _ {bs : List ℕ} {b : Buffers} (p : PreAccepted bs b) where
         -- whatever tree the nodes hold: it is this one
         pub all_given : Accepting bs b counts after
         all_given = few refl (λ root q. subst (λ (t : Forest). (length (resolved (file_of bs t)).slots ≤ 4096) × Given (file_of bs t) (node_count bs) b counts after)
-            (reads_one p.root root (nodes_of bs) 0 p.ready.reads q) ((end.image f).slots.few, given))
+            (reads_one p.root root (nodes_of bs) 0 p.ready.reads q) (end.image.slots.few, given))

@@ -1,13 +1,13 @@
 -- The three walks one after the other: what each is handed, and what comes of the last.
 use Prim.Native.Nat.{ℕ, ◌*◌, ◌<◌, ◌≤◌}
-use mathlib.Core.Path.{◌≡◌, refl, sym, subst}
+use mathlib.Core.Path.{◌≡◌, refl, subst}
 use mathlib.Core.Logic.{inl, inr}
-use mathlib.Core.Bool.{false, true≢false}
+use mathlib.Core.Bool.{false}
 use mathlib.Core.List.{List, [], ◌∷◌}
 use mathlib.Core.Option.{some}
 use native.Mathlib.Omega.{arith}
 use lib.ListN.{length, length-map}
-use Rattle.lexical.specs.Lists.{none-some, Tested, was, wasnt, tested}
+use Rattle.lexical.specs.Lists.{none-some}
 use Rattle.lexical.specs.Places.{In}
 use Rattle.lexical.specs.Tree.{Forest, scopes_in, params_in}
 use Rattle.lexical.specs.Binders.{Var, unmarked}
@@ -24,7 +24,9 @@ use Rattle.nodefile.specs.Node.{size_of}
 use Rattle.nodefile.specs.Reads.{Reads}
 use Rattle.nodefile.specs.FileOf.{file_of}
 use Rattle.nodefile.proofs.Laws.FileLaws.{globals_count}
+use Rattle.std.specs.Prelude.{Result, Ok, Err}
 use Rattle.store.specs.declared.ids.State.{State}
+use Rattle.store.specs.declared.ids.Full.{Full}
 use Rattle.store.specs.Sections.{Mem, mem, Long}
 use Rattle.store.specs.Rel.{World, R, Over, too_many_slots, too_many_bindings, too_many_errors}
 use Rattle.store.specs.Blocks.{module_block}
@@ -37,7 +39,7 @@ use Rattle.idents.specs.Cycle as ids
 use Rattle.store.proofs.Laws.Points.{Zeros}
 use Rattle.note.specs.Noted.{Noted}
 use Rattle.scope.specs.Ready.{Ready}
-use Rattle.scope.specs.Walks.{Ended, Begun}
+use Rattle.scope.specs.Walks.{Finished, Begun}
 use Rattle.scope.specs.Laws.Readies.{ready_scoped, ready_length}
 use Rattle.scope.proofs.Owners.{second_owners}
 use Rattle.scope.specs.Laws.Bounds.{entry_slots}
@@ -47,14 +49,14 @@ module_is_lem : (F : File) → BlockIs (module_block F) module_is
 unfolding module_block
 module_is_lem F = record { scope_is = refl; first-is = refl; local_is = refl }
 
--- what was too much before is too much at the end; and then the working lists cannot be the last state's
+-- what was too much after walk one is too much at the end
 made_more : (F : File) → length (start F).made ≤ length (resolved F).made
 made_more F = omega (arith, (second_longer F).made, (resolved_longer F).made)
 
-over_start : (F : File) → Over (start F) → 2304 < length (resolved F).made
+over_start : (F : File) → Over (start F) → Over (resolved F)
 unfolding start rec.errors
 over_start F (too_many_slots h) = absurd (omega arith)
-over_start F (too_many_bindings h) = omega (arith, made_more F)
+over_start F (too_many_bindings h) = too_many_bindings (omega (arith, made_more F))
 over_start F (too_many_errors h) = absurd (omega arith)
 
 -- the root is the whole list
@@ -75,7 +77,7 @@ module _ {list : List ℕ} {entries : ℕ} {m : Mem} (g : Begun list entries m) 
   list_reads = rw g.list_is g.ready.reads
 
   -- walk one
-  abbrev one-ghost : col.Ghost list 0 module_is (opening entries) m
+  abbrev one-ghost : col.Ghost list 0 module_is (Ok (opening entries)) m
   one-ghost = record {
     W = unsettled F [] no_rows no_params;
     env = [];
@@ -87,28 +89,32 @@ module _ {list : List ℕ} {entries : ℕ} {m : Mem} (g : Begun list entries m) 
     valid = g.ready.valid;
     is = module_is_lem F;
     rel = record {
-      over = λ f. absurd (true≢false (sym f));
-      rel = λ _. module_begins F entries m.binds m.w m.t g.noted g.blank (entry_slots g.bs g.root);
+      over = tt;
+      rel = module_begins F entries m.binds m.w m.t g.noted g.blank (entry_slots g.bs g.root);
     };
   }
 
-  pub one_pre : Long m → col.Pre1 list 0 module_is (opening entries) m
+  pub one_pre : Long m → col.Pre1 list 0 module_is (Ok (opening entries)) m
   one_pre l = record { some = root_some; whole = root_whole; pre = record { long = l; within = omega (arith, list_few); ghost = one-ghost } }
 
+  one-done : {r : Result State Full} {m₁ : Mem} → col.Done list 0 module_is plain_marks (Ok (opening entries)) m r m₁ → R (world_of F [] []) [] (0 ∷ []) (start F) r m₁
+  unfolding unmarked
+  one-done x = module_closes F [] no_rows no_params (x.right one-ghost)
+
+  -- a list was full in walk one
+  pub full-one : {e : Full} {m₁ : Mem} → col.Done list 0 module_is plain_marks (Ok (opening entries)) m (Err e) m₁ → Over (resolved F)
+  full-one x = over_start F (one-done x).over
+
   -- walk two
-  module _ {a : State} {m₁ : Mem} (x : col.Done list 0 module_is plain_marks (opening entries) m a m₁) where
-    one-done : R (world_of F [] []) [] (0 ∷ []) (start F) a m₁
-    unfolding unmarked
-    one-done = module_closes F [] no_rows no_params (x.right one-ghost)
+  module _ {a : State} {m₁ : Mem} (x : col.Done list 0 module_is plain_marks (Ok (opening entries)) m (Ok a) m₁) where
+    abbrev two-ghost : AllNodes list (Ok a) m₁
+    two-ghost = record { F = file_of g.bs g.root; reads = list_reads; valid = g.ready.valid; apart = g.ready.once.apart; rel = one-done x }
 
-    abbrev two-ghost : AllNodes list a m₁
-    two-ghost = record { F = file_of g.bs g.root; reads = list_reads; valid = g.ready.valid; apart = g.ready.once.apart; rel = one-done }
-
-    pub two_pre : Long m₁ → PreAll list a m₁
+    pub two_pre : Long m₁ → PreAll list (Ok a) m₁
     two_pre l = record { long = l; within = list_few; ghost = two-ghost }
 
     -- walk three
-    module _ {b : State} {m₂ : Mem} (y : AllDone list a m₁ b m₂) where
+    module _ {b : Result State Full} {m₂ : Mem} (y : AllDone list (Ok a) m₁ b m₂) where
       abbrev W : World
       W = world_of F (second F).0 (params_in g.root)
 
@@ -141,21 +147,20 @@ module _ {list : List ℕ} {entries : ℕ} {m : Mem} (g : Begun list entries m) 
       pub three_pre : Long m₂ → ids.Pre1 list 0 b m₂
       three_pre l = record { some = root_some; whole = root_whole; pre = record { long = l; within = omega (arith, list_few); ghost = three-ghost } }
 
-      module _ {c : State} {m₃ : Mem} (z : ids.Done list 0 false b m₂ c m₃) where
-        three_done : R W [] (0 ∷ []) (resolved F) c m₃
-        unfolding outermost outer_of
-        three_done = rw (resolved-each F) (z.right three-ghost)
+      three_done : {r : Result State Full} {m₃ : Mem} → ids.Done list 0 false b m₂ r m₃ → R W [] (0 ∷ []) (resolved F) r m₃
+      unfolding outermost outer_of
+      three_done z = rw (resolved-each F) (z.right three-ghost)
 
-        -- the module's bindings were counted after walk one
-        counted-one : Tested a.full → c.full ≡ false → a.bindings ≡ length (start F).made
-        counted-one (was f) e = absurd (omega (arith, over_start F (one-done.over f), (three_done.rel e).image.made.few))
-        counted-one (wasnt f) e = (one-done.rel f).image.bindings_are
+      -- a list was full in walk two or three
+      pub full-three : {e : Full} {m₃ : Mem} → ids.Done list 0 false b m₂ (Err e) m₃ → Over (resolved F)
+      full-three z = (three_done z).over
 
-        pub ended : Ended g.bs g.root c a.bindings m₃
-        ended = record { over = three_done.over; image = λ f. (three_done.rel f).image; first = counted-one (tested a.full) }
+      -- none was: the module's bindings were counted after walk one
+      pub finished : {c : State} {m₃ : Mem} → ids.Done list 0 false b m₂ (Ok c) m₃ → Finished g.bs g.root (record { st = c; «module» = a.bindings }) m₃
+      finished z = record { image = (three_done z).rel.image; first = (one-done x).rel.image.bindings_are }
 
 abbrev pub begun : {list bs binds w t : List ℕ} {entries : ℕ} (root : Forest) → Ready bs root → list ≡ nodes_of bs → Noted (file_of bs root) entries binds t → Zeros w → Begun list entries (mem binds w t)
 begun {list} {bs} root q e n z = record { bs = bs; root = root; ready = q; list_is = e; noted = n; blank = z }
 
-pub long_made : {n : ℕ} {binds w t : List ℕ} → 2304 ≤ n → length binds ≡ n → length w ≡ 12544 → length t ≡ 20864 → Long (mem binds w t)
-long_made a b c d = record { binds = omega arith; w = c; t = d }
+pub long_made : {n : ℕ} {binds w t : List ℕ} → 2304 ≤ n → length binds ≡ n → Long (mem binds w t)
+long_made a b = record { binds = omega arith }

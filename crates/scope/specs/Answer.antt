@@ -31,10 +31,6 @@ walk_rows bs = 12 when ManySlots bs ∷ []
 abbrev pub resolving : List ℕ → Buffers → List Row
 resolving bs b = buffer_rows b ++ (judging bs ++ walk_rows bs)
 
--- a refusal's number, and no counts
-abbrev pub refusal : ℕ → Answer
-refusal n = record { number = n; bindings = 0; «module» = 0; slots = 0; copies = 0; errors = 0 }
-
 -- a refusal: all counts are zero, and every element of every buffer is
 pub record Refused (b : Buffers) (a : Answer) (b' : Buffers) : Type 0 where
   pub bindings : a.bindings ≡ 0

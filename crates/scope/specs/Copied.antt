@@ -5,8 +5,7 @@ use Rattle.store.specs.Sections.{nodes_at, slots_at, copies_at, errors_at, scope
 use Rattle.scope.specs.Filled.{Filled}
 
 -- there is as much in w, and as much room
-pub record PreCopy (w : List ℕ) (n : ℕ) (st : State) (nodes scopes slots copies errors : List ℕ) : Type 0 where
-  pub long : length w ≡ 12544
+pub record PreCopy (n : ℕ) (st : State) (nodes scopes slots copies errors : List ℕ) : Type 0 where
   pub few_nodes : n ≤ 2048
   pub few_slots : st.slots ≤ 4096
   pub few_copies : st.copies ≤ 4096

@@ -6,3 +6,4 @@ pub mod Walks
 pub mod Answer
 pub mod Accepted
 pub mod Laws
+pub mod Records

@@ -1,24 +1,26 @@
 // The port of names.rs, payload.rs and scope.rs of the crate starlark 0.14.2: what every name of a script means, and in which slot it lives.
 // Any bytes are taken. First the buffers are cleared; then their lengths and the file are judged; an accepted file's lists are noted (`note`),
 // the three walks go over its nodes (`collect`, `idents`), and what they left in the working lists is copied out (`out`).
+// The seven buffers stay parameters of their own: the C call lends them so, each as long as its caller likes.
 #![tactic(auto)]
 
 mod out;
 
 ghost use Rattle.answer.specs.Buffers.{buffers, ShortOf, Zeroed};
 ghost use Rattle.base.specs.Says.{Says};
-ghost use Rattle.scope.specs.Answer.{Resolves, refusal};
-ghost use Rattle.std.specs.Prelude.{◌≡◌};
+ghost use Rattle.scope.specs.Answer.{Resolves};
+ghost use Rattle.scope.specs.Records.{fresh, buffers_of};
 ghost use Rattle.store.specs.Sections.{mem};
 ghost use Rattle.scope.specs.Accepted.{PreAccepted, Accepting};
 ghost use Rattle.scope.specs.Walks.{PreNodes, NodesDone, PreWalk, WalkDone};
 ghost use Rattle.scope.specs.Copied.{PreCopy, Copied};
 
 use answer::Answer;
-use store::{State, sections};
+use base::Refusal;
+use store::{Full, State, Table, Words, sections};
 
 // The walks' end: the state, and the number of module bindings.
-#[derive(Clone, Copy)]
+#[derive(Clone, Copy, Debug, PartialEq, Eq)]
 struct Walked {
     st: State,
     module: usize,
@@ -29,9 +31,9 @@ fn enter_module(
     list: &[u8],
     entries: usize,
     binds: &mut [u64],
-    w: &mut [u32],
-    t: &mut [u16],
-) -> Walked
+    w: &mut Words,
+    t: &mut Table,
+) -> Result<Walked, Full>
     requires { PreNodes list.now entries (mem binds.old w.old t.old) }
     ensures { NodesDone list.now entries (mem binds.old w.old t.old) result (mem binds.new w.new t.new) }
 {
@@ -41,20 +43,18 @@ fn enter_module(
         copies: 0,
         errors: 0,
         level: 0,
-        full: false,
     };
-    let a = collect::collect_module(list, st, binds, w, t);
-    let module = a.bindings;
-    let b = collect::collect_defines_recursively(list, a, binds, w, t);
-    let c = idents::resolve_node(list, 0, false, b, binds, w, t);
-    Walked {
+    let a = collect::collect_module(list, Ok(st), binds, w, t)?;
+    let b = collect::collect_defines_recursively(list, Ok(a), binds, w, t);
+    let c = idents::resolve_node(list, 0, false, b, binds, w, t)?;
+    Ok(Walked {
         st: c,
-        module: module,
-    }
+        module: a.bindings,
+    })
 }
 
 // The file's lists, then the walks; binds: as many bindings as there can be.
-fn walk(file: &[u8], binds: &mut [u64], w: &mut [u32]) -> Walked
+fn walk(file: &[u8], binds: &mut [u64], w: &mut Words) -> Result<Walked, Full>
     requires { PreWalk file.now binds.old w.old }
     ensures { WalkDone file.now result binds.new w.new }
 {
@@ -63,21 +63,8 @@ fn walk(file: &[u8], binds: &mut [u64], w: &mut [u32]) -> Walked
     enter_module(nodefile::nodes(file), entries, binds, w, &mut t)
 }
 
-fn refused(number: u64) -> Answer
-    ensures { result ≡ refusal number }
-{
-    Answer {
-        number: number,
-        bindings: 0,
-        module: 0,
-        slots: 0,
-        copies: 0,
-        errors: 0,
-    }
-}
-
-// Zeros into every buffer.
-fn clear(
+// Zeros into every buffer of an answer.
+pub fn clear(
     nodes: &mut [u32],
     bindings: &mut [u64],
     module: &mut [u32],
@@ -88,13 +75,13 @@ fn clear(
 )
     ensures { Zeroed (buffers nodes.old bindings.old «module».old scopes.old slots.old copies.old errors.old) (buffers nodes.new bindings.new «module».new scopes.new slots.new copies.new errors.new) }
 {
-    out::clear32(nodes);
-    out::clear64(bindings);
-    out::clear32(module);
-    out::clear32(scopes);
-    out::clear32(slots);
-    out::clear32(copies);
-    out::clear32(errors);
+    nodes.fill(0);
+    bindings.fill(0);
+    module.fill(0);
+    scopes.fill(0);
+    slots.fill(0);
+    copies.fill(0);
+    errors.fill(0);
 }
 
 // Number 1.
@@ -109,33 +96,18 @@ fn short(
 ) -> bool
     ensures { Says result (ShortOf nodes bindings «module» scopes slots copies errors) }
 {
-    if nodes < answer::NODES {
-        return true;
-    }
-    if bindings < answer::BINDINGS {
-        return true;
-    }
-    if module < answer::ENTRIES {
-        return true;
-    }
-    if scopes < answer::SCOPES {
-        return true;
-    }
-    if slots < answer::SLOTS {
-        return true;
-    }
-    if copies < answer::COPIES {
-        return true;
-    }
-    if errors < answer::ERRORS {
-        return true;
-    }
-    false
+    nodes < answer::NODES
+        || bindings < answer::BINDINGS
+        || module < answer::ENTRIES
+        || scopes < answer::SCOPES
+        || slots < answer::SLOTS
+        || copies < answer::COPIES
+        || errors < answer::ERRORS
 }
 
 // What the walks left in w: the records of the nodes, the scopes, the slots, the copies and the errors.
 fn copy_out(
-    w: &[u32],
+    w: &Words,
     n: usize,
     st: State,
     nodes: &mut [u32],
@@ -144,7 +116,7 @@ fn copy_out(
     copies: &mut [u32],
     errors: &mut [u32],
 )
-    requires { PreCopy w.now n st nodes.old scopes.old slots.old copies.old errors.old }
+    requires { PreCopy n st nodes.old scopes.old slots.old copies.old errors.old }
     ensures { Copied w.now n st nodes.old scopes.old slots.old copies.old errors.old nodes.new scopes.new slots.new copies.new errors.new }
 {
     out::copy_front(w, 0, n, nodes);
@@ -169,23 +141,24 @@ fn resolve_accepted(
     ensures { Accepting file.now (buffers nodes.old bindings.old «module».old scopes.old slots.old copies.old errors.old) result (buffers nodes.new bindings.new «module».new scopes.new slots.new copies.new errors.new) }
 {
     let mut w = [0u32; sections::W_LENGTH];
-    let r = walk(file, &mut bindings[0..answer::BINDINGS], &mut w);
-    let st = r.st;
-    let m = r.module;
-    if st.full {
-        out::clear64(bindings);
-        return refused(12);
-    }
-    let n = nodefile::node_count(file) as usize;
-    copy_out(&w, n, st, nodes, scopes, slots, copies, errors);
-    out::put_entries(bindings, m, module);
-    Answer {
-        number: 0,
-        bindings: st.bindings,
-        module: m,
-        slots: st.slots,
-        copies: st.copies,
-        errors: st.errors,
+    match walk(file, &mut bindings[..answer::BINDINGS], &mut w) {
+        Err(Full) => {
+            bindings.fill(0);
+            Answer::refused(Refusal::ManySlots)
+        }
+        Ok(Walked { st, module: m }) => {
+            let n = nodefile::node_count(file) as usize;
+            copy_out(&w, n, st, nodes, scopes, slots, copies, errors);
+            out::put_entries(&bindings[..m], module);
+            Answer {
+                number: 0,
+                bindings: st.bindings,
+                module: m,
+                slots: st.slots,
+                copies: st.copies,
+                errors: st.errors,
+            }
+        }
     }
 }
 
@@ -213,11 +186,58 @@ pub fn resolve(
     );
     clear(nodes, bindings, module, scopes, slots, copies, errors);
     if few {
-        return refused(1);
+        return Answer::refused(Refusal::ShortBuffer);
     }
-    let number = judge::judge(file);
-    if number != 0 {
-        return refused(number);
+    match judge::verdict(file) {
+        Err(why) => Answer::refused(why),
+        Ok(()) => resolve_accepted(file, nodes, bindings, module, scopes, slots, copies, errors),
     }
-    resolve_accepted(file, nodes, bindings, module, scopes, slots, copies, errors)
+}
+
+// What a file comes to, in buffers of its own.
+#[derive(Drop)]
+pub struct Records {
+    pub answer: Answer,
+    pub nodes: [u32; answer::NODES],
+    pub bindings: [u64; answer::BINDINGS],
+    pub module: [u32; answer::ENTRIES],
+    pub scopes: [u32; answer::SCOPES],
+    pub slots: [u32; answer::SLOTS],
+    pub copies: [u32; answer::COPIES],
+    pub errors: [u32; answer::ERRORS],
+}
+
+impl Records {
+    // The file resolved.
+    pub fn of(file: &[u8]) -> Records
+        ensures { Resolves file.now fresh result.answer (buffers_of result) }
+    {
+        let mut nodes = [0u32; answer::NODES];
+        let mut bindings = [0u64; answer::BINDINGS];
+        let mut module = [0u32; answer::ENTRIES];
+        let mut scopes = [0u32; answer::SCOPES];
+        let mut slots = [0u32; answer::SLOTS];
+        let mut copies = [0u32; answer::COPIES];
+        let mut errors = [0u32; answer::ERRORS];
+        let answer = resolve(
+            file,
+            &mut nodes,
+            &mut bindings,
+            &mut module,
+            &mut scopes,
+            &mut slots,
+            &mut copies,
+            &mut errors,
+        );
+        Records {
+            answer,
+            nodes,
+            bindings,
+            module,
+            scopes,
+            slots,
+            copies,
+            errors,
+        }
+    }
 }

@@ -3,14 +3,17 @@
 // It ends with the stream, or at a file of more than 65,536 bytes.
 #![tactic(auto)]
 
+use answer::NodeClass;
+use nodefile::kinds::Kind;
+use nodefile::node;
+use scope::Records;
 use std::io;
 
-// The letter of a Name's class.
+// The letter of a Name's class (the program's own: a class has no text).
 fn letter(record: u32) -> char {
-    if answer::node::class(record) == answer::node::MODULE {
-        'M'
-    } else {
-        'L'
+    match answer::node::class(record) {
+        NodeClass::Module => 'M',
+        _ => 'L',
     }
 }
 
@@ -22,21 +25,11 @@ fn name_line(rt: &impl Print, node: usize, record: u32) -> io::Result<()> {
     println!(rt; "N {node} {class} {slot} {binding}")
 }
 
-// The line for node i, if it is a Name.
-fn node_line(rt: &impl Print, list: &[u8], i: usize, record: u32) -> io::Result<()> {
-    if i >= list.len() / 8 {
-        return Ok(());
-    }
-    let start = 8 * i;
-    if nodefile::kind(&list[start..]) == 8 {
-        name_line(rt, i, record)?;
-    }
-    Ok(())
-}
-
-fn name_lines(rt: &impl Print, list: &[u8], records: &[u32]) -> io::Result<()> {
+fn name_lines(rt: &impl Print, file: &[u8], records: &[u32]) -> io::Result<()> {
     for (i, record) in records.iter().enumerate() {
-        node_line(rt, list, i, *record)?;
+        if node::named_kind(file, i) == Some(Kind::Name) {
+            name_line(rt, i, *record)?;
+        }
     }
     Ok(())
 }
@@ -52,11 +45,8 @@ fn slot_line(rt: &impl Print, file: &[u8], record: u32) -> io::Result<()> {
     rt.write_all(b"\n")
 }
 
-fn slot_lines(rt: &impl Print, file: &[u8], count: usize, records: &[u32]) -> io::Result<()> {
-    for (i, record) in records.iter().enumerate() {
-        if i >= count {
-            return Ok(());
-        }
+fn slot_lines(rt: &impl Print, file: &[u8], records: &[u32], count: usize) -> io::Result<()> {
+    for record in records.iter().take(count) {
         slot_line(rt, file, *record)?;
     }
     Ok(())
@@ -64,47 +54,24 @@ fn slot_lines(rt: &impl Print, file: &[u8], count: usize, records: &[u32]) -> io
 
 // The listing, then the lines for Names and slots.
 fn list(rt: &impl Print, file: &[u8]) -> io::Result<()> {
-    let mut nodes = [0u32; answer::NODES];
-    let mut bindings = [0u64; answer::BINDINGS];
-    let mut module = [0u32; answer::ENTRIES];
-    let mut scopes = [0u32; answer::SCOPES];
-    let mut slots = [0u32; answer::SLOTS];
-    let mut copies = [0u32; answer::COPIES];
-    let mut errors = [0u32; answer::ERRORS];
-    let a = scope::resolve(
-        file,
-        &mut nodes,
-        &mut bindings,
-        &mut module,
-        &mut scopes,
-        &mut slots,
-        &mut copies,
-        &mut errors,
-    );
+    let records = Records::of(file);
     lister::show_all(rt, file)?;
-    if a.number == 0 {
-        name_lines(rt, nodefile::nodes(file), &nodes)?;
-        slot_lines(rt, file, a.slots, &slots)?;
+    if records.answer.number == 0 {
+        name_lines(rt, file, &records.nodes)?;
+        slot_lines(rt, file, &records.slots, records.answer.slots)?;
     }
     rt.write_all(b"\xff\xff\xff\xff")
 }
 
-// Lists the next file; false at the end.
-fn listed(rt: &impl Print, input: &mut impl io::Read, buf: &mut [u8]) -> io::Result<bool> {
-    let next = stream::next(input, buf)?;
-    if next.more {
-        list(rt, &buf[..next.length])?;
-    }
-    Ok(next.more)
-}
-
 fn main(rt: HostRuntime) -> io::Result<()> {
     let mut input = rt.stdin();
-    let mut buf = [0u8; 65536];
-    for _ in 0..4294967295u64 {
-        if !listed(&rt, &mut input, &mut buf)? {
+    let mut buf = [0u8; stream::MOST_BYTES];
+    // a loop as in judge_stream: a closure for its body would need a clause that ties its calls to the bytes that were left
+    for _ in 0..stream::MOST_STRINGS {
+        let Some(length) = stream::next(&mut input, &mut buf)? else {
             return Ok(());
-        }
+        };
+        list(&rt, &buf[..length])?;
     }
     Ok(())
 }

@@ -4,7 +4,7 @@ use mathlib.Core.Path.{◌≡◌, sym, ap, ◌∙◌, subst}
 use mathlib.Core.Bool.{Bool, true, false}
 use mathlib.Core.List.{List}
 use native.Mathlib.Omega.{arith}
-use lib.ListN.{length, replicate, length-replicate}
+use lib.ListN.{length}
 use Rattle.base.specs.Says.{Says}
 use Rattle.lexical.specs.Tree.{Forest}
 use Rattle.nodefile.specs.Layout.{name_count, nodes_of, nodes_length}
@@ -17,10 +17,8 @@ use Rattle.scoping.specs.Depth.{TooDeep, too_deep}
 use Rattle.nodefile.specs.Height.{height}
 use Rattle.scoping.specs.Inside.Held.{Held}
 use Rattle.scoping.specs.Shaped.{Shaped}
-use Rattle.scoping.specs.Inside.Found.{Unset}
 use Rattle.scoping.specs.Inside.Naming.{AllKnown}
 use Rattle.scoping.proofs.Known.{all_known}
-use Rattle.marks.specs.Marks.{zeros}
 
 -- the node list of a file whose header is right
 pub record List8 (ns : List ℕ) : Type 0 where
@@ -46,10 +44,14 @@ says_map true f g h = f h
 says_map false f g h = λ q. h (g q)
 
 -- what a walk says of every forest that the list holds it says of number 9
-pub says_depth : (b : Bool) {ns : List ℕ} → Sound ns → ((at : ℕ) (f : Forest) → Reads ns at f → Says b (64 < height f)) → Says b (TooDeep ns)
+says_depth : (b : Bool) {ns : List ℕ} → Sound ns → ((at : ℕ) (f : Forest) → Reads ns at f → Says b (64 < height f)) → Says b (TooDeep ns)
 says_depth b {ns} s h =
     let r = tree ns (record { root = s.root; local = s.fits }) in
     says_map b (λ l. too_deep r.0 r.1 l) (λ d. elim d [ too_deep g q l ↦ subst (λ (x : Forest). 64 < height x) (reads_one g r.0 ns 0 q r.1) l ]) (h 0 r.0 r.1)
 
-pub unset : Unset (replicate 256 0)
-unset = record { size = length-replicate {A = ℕ} 256 0; zero = zeros 256 }
+pub depth_said : (b : Bool) {bs ns : List ℕ} → Shaped bs → ns ≡ nodes_of bs → ((at : ℕ) (f : Forest) → Reads ns at f → Says b (64 < height f)) → Says b (TooDeep (nodes_of bs))
+depth_said b o e h = subst (λ (l : List ℕ). Says b (TooDeep l)) e (says_depth b (shape_sound o e) h)
+
+-- what a test says of the list it says of the file's
+pub list_said : (b : Bool) (P : List ℕ → Type 0) {l m : List ℕ} → l ≡ m → Says b (P l) → Says b (P m)
+list_said b P e h = subst (λ (l : List ℕ). Says b (P l)) e h

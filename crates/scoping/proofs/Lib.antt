@@ -1,4 +1,5 @@
 pub mod Deep
+pub mod Holding
 pub mod Noting
 pub mod Naming
 pub mod Cells

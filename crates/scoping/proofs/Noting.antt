@@ -1,5 +1,5 @@
 -- Number 10: the scope numbers of the nodes passed, where each stands, how many they are, and the largest.
-use Prim.Native.Nat.{ℕ, zero, ◌+◌, ◌-◌, ◌*◌, ◌/◌, ◌%◌, ◌≤◌, ◌<◌, max}
+use Prim.Native.Nat.{ℕ, ◌+◌, ◌-◌, ◌*◌, ◌/◌, ◌%◌, ◌≤◌, ◌<◌, max}
 use mathlib.Core.Path.{◌≡◌, refl, sym, ap, ◌∙◌, subst}
 use mathlib.Core.Bool.{Bool, true, false, cond, true≢false}
 use mathlib.Core.Logic.{◌⊎◌, inl, inr, ⊎_elim}
@@ -8,8 +8,11 @@ use native.Mathlib.Omega.{arith}
 use native.Mathlib.Decide.{ℕ_discrete, dec_lt}
 use native.Mathlib.Numerals.{add-one}
 use borrow.Author.Count.{below_more}
+use lib.Dec.{ltb}
 use lib.ListN.{length, get_or, set, take, drop, length-append, length-drop, length-set}
 use lib.Seq.{drop-drop, get_or-set_same, get_or-set_other}
+use Rattle.std.proofs.lemmas.Bool.{ltb-true, ltb-false}
+use Rattle.base.specs.Says.{Says}
 use Rattle.base.specs.Parts.{part-from}
 use Rattle.base.specs.UpTo.{up_to, up_to_snoc, up_to_front}
 use Rattle.lexical.specs.Places.{In, Distinct, in_snoc, in_left, in_right, distinct_left}
@@ -217,3 +220,11 @@ module _ {ns found : List ℕ} {next count top : ℕ} {t : List ℕ} (n : Noting
                 | no b ↦ absurd (n.marks.into v (subst (In v) all (noting_each.all v z (omega (arith, within (number ns i) (counted_in i s))))) u)
               ];
             }
+
+  -- the answer: whether fewer were met than the largest number says
+  pub noting_answer : length t < 8 → length ns % 8 ≡ 0 → Says (ltb count top) (BadScopes ns) × (ltb count top ≡ false → Found ns found)
+  noting_answer h m = (says (ltb count top) refl, λ e. noting_found h (ltb-false count top e) m)
+    where
+      says : (b : Bool) → ltb count top ≡ b → Says b (BadScopes ns)
+      says true e = noting_gap h (ltb-true count top e)
+      says false e = noting_end h (ltb-false count top e)

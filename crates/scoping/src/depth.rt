@@ -12,6 +12,7 @@ pub fn deeper(t: &[u8], left: usize) -> bool
     ensures { (at : ℕ) (f : Forest) → Reads t.now at f → Says result (left < height f) }
 {
     let mut u = t;
+    // Nodes take unequal room: the walk goes by what is left.
     while u.len() > 8 * left {
         if left == 0 {
             return true;

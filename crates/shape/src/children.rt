@@ -1,147 +1,135 @@
 // Number 8: the root, and the children of each node against the table.
-ghost use Rattle.std.specs.Prelude.{◌≡◌, ℕ, ◌*◌, ◌<◌, List};
+ghost use Rattle.std.specs.Prelude.{◌≡◌, ℕ, ◌*◌, ◌≤◌, List, map, length};
 ghost use Rattle.base.specs.Says.{Says};
+ghost use Rattle.nodefile.specs.Kinds.{number};
+ghost use Rattle.nodefile.specs.Node.{size_of, after};
 ghost use Rattle.nodefile.specs.Kids.{Kids, Fits};
 ghost use Rattle.shape.specs.Nodes.{Sound};
-ghost use Rattle.lexical.specs.Table.{row, allowed};
+ghost use Rattle.lexical.specs.Table.{row, matches, allowed};
 ghost use Rattle.shape.specs.Children.{BadChildren};
-ghost use Rattle.shape.specs.Inside.Code.{Coded, Takes, code_of, rest_of};
+ghost use Rattle.shape.specs.Inside.Row.{place_of, HeadIn};
 
-use nodefile::kinds;
+use nodefile::kinds::{self, Kind, Role};
 
-// A row of the table is one number, its code: 13 bits a place, the first place lowest. Of a place 5 bits are the lowest kind, 5 the highest,
-// then whether any number may stand there, whether it may be passed over, and whether something must still come.
-const MANY: u64 = 1024;
+// The kinds from the first to the second, both among them.
+#[derive(Clone, Copy, Debug, PartialEq, Eq)]
+struct Kinds(Kind, Kind);
 
-const SKIP: u64 = 2048;
+const STATEMENT: Kinds = Kinds(Kind::Block, Kind::Load);
 
-const NEED: u64 = 4096;
+const TARGET: Kinds = Kinds(Kind::Name, Kind::Place);
 
-const PLACE: u64 = 8192;
+const EXPRESSION: Kinds = Kinds(Kind::Ident, Kind::Other);
 
-// The code of a row that nothing fills.
-const NEVER: u64 = 258079;
+const CLAUSE: Kinds = Kinds(Kind::ForClause, Kind::IfClause);
 
-// The rows of the kinds that have children.
-const BLOCK_ROW: u64 = 257248;
+const NAME: Kinds = Kinds(Kind::Name, Kind::Name);
 
-const PLAIN_ROW: u64 = 256459;
+const FOR_CLAUSE: Kinds = Kinds(Kind::ForClause, Kind::ForClause);
 
-const ASSIGN_ROW: u64 = 17348166308168;
+const PARAM: Kinds = Kinds(Kind::Param, Kind::Param);
 
-const MODIFY_ROW: u64 = 2117693768;
+const TYPE: Kinds = Kinds(Kind::Type, Kind::Type);
 
-const IF_ROW: u64 = 17194936963531;
+// A place of a row of the table: one child, at most one, or any number of children.
+#[derive(Clone, Copy, Debug, PartialEq, Eq)]
+enum Item {
+    One(Kinds),
+    Opt(Kinds),
+    Many(Kinds),
+}
 
-const FOR_ROW: u64 = 17332377841992;
+use Item::{Many, One, Opt};
 
-const DEF_ROW: u64 = 141986985807327496;
-
-const LOAD_ROW: u64 = 257288;
-
-const TUPLE_ROW: u64 = 257352;
-
-const PLACE_TARGET_ROW: u64 = 2100916683;
-
-const LAMBDA_ROW: u64 = 2117697073;
-
-const COMPR_ROW: u64 = 140990132017820143;
-
-const OTHER_ROW: u64 = 257483;
-
-const FOR_CLAUSE_ROW: u64 = 2117693768;
-
-const IF_CLAUSE_ROW: u64 = 258507;
-
-const PARAM_ROW: u64 = 17210693800200;
-
-const TYPE_ROW: u64 = 258507;
-
-// The code of the row of a kind.
+// The row of a kind.
 #[tactic(auto, unfolding(lexical::specs::Table::row))]
-fn code(kind: u64) -> u64
-    requires { kind < 19 }
-    ensures { result ≡ code_of (row kind) }
+fn row(kind: Kind) -> &'static [Item]
+    ensures { map place_of result.now ≡ row (number kind) }
 {
     match kind {
-        0 => BLOCK_ROW,
-        1 => PLAIN_ROW,
-        2 => ASSIGN_ROW,
-        3 => MODIFY_ROW,
-        4 => IF_ROW,
-        5 => FOR_ROW,
-        6 => DEF_ROW,
-        7 => LOAD_ROW,
-        8 => 31,
-        9 => TUPLE_ROW,
-        10 => PLACE_TARGET_ROW,
-        11 => 31,
-        12 => LAMBDA_ROW,
-        13 => COMPR_ROW,
-        14 => OTHER_ROW,
-        15 => FOR_CLAUSE_ROW,
-        16 => IF_CLAUSE_ROW,
-        17 => PARAM_ROW,
-        _ => TYPE_ROW,
+        Kind::Block => &[Many(STATEMENT)],
+        Kind::Plain => &[Opt(EXPRESSION)],
+        Kind::Assign => &[One(TARGET), Opt(TYPE), One(EXPRESSION)],
+        Kind::Modify => &[One(TARGET), One(EXPRESSION)],
+        Kind::If => &[One(EXPRESSION), One(STATEMENT), Opt(STATEMENT)],
+        Kind::For => &[One(TARGET), One(EXPRESSION), One(STATEMENT)],
+        Kind::Def => &[One(NAME), Many(PARAM), Opt(TYPE), One(STATEMENT)],
+        Kind::Load => &[Many(NAME)],
+        Kind::Name => &[],
+        Kind::Tuple => &[Many(TARGET)],
+        Kind::Place => &[One(EXPRESSION), Opt(EXPRESSION)],
+        Kind::Ident => &[],
+        Kind::Lambda => &[Many(PARAM), One(EXPRESSION)],
+        Kind::Compr => &[
+            One(FOR_CLAUSE),
+            Many(CLAUSE),
+            One(EXPRESSION),
+            Opt(EXPRESSION),
+        ],
+        Kind::Other => &[Many(EXPRESSION)],
+        Kind::ForClause => &[One(TARGET), One(EXPRESSION)],
+        Kind::IfClause => &[One(EXPRESSION)],
+        Kind::Param => &[One(NAME), Opt(TYPE), Opt(EXPRESSION)],
+        Kind::Type => &[One(EXPRESSION)],
     }
 }
 
-// Whether a kind is one of those of the first place of a row.
-fn takes(row: u64, kind: u64) -> bool
-    ensures { Says result (Takes row kind) }
+// Whether a part starts with a node of one of the kinds.
+fn head_in(t: &[u8], kinds: Kinds) -> bool
+    ensures { Says result (HeadIn t.now kinds) }
 {
-    if kind < row % 32 {
+    if t.len() < 8 {
         return false;
     }
-    if kind > row / 32 % 32 {
-        return false;
-    }
-    true
+    // A number of five bits against the numbers of two kinds: their order is document 01's.
+    let kind = nodefile::kind(t);
+    kinds.0 as u64 <= kind && kind <= kinds.1 as u64
 }
 
-// What is left of a row after a child of a kind.
-fn rest(row: u64, kind: u64) -> u64
-    requires { Coded row }
-    ensures { (c : Coded row) → result ≡ code_of (rest_of c.places kind) }
+// What stands after the first node of a part.
+fn after(t: &[u8]) -> &[u8]
+    requires { 8 * size_of t.now ≤ length t.now }
+    ensures { result.now ≡ after t.now }
 {
-    let mut c = row;
-    loop {
-        if takes(c, kind) {
-            if c / MANY % 2 == 1 {
-                return c;
-            }
-            return c / PLACE;
-        }
-        if c / SKIP % 2 == 0 {
-            return NEVER;
-        }
-        c = c / PLACE;
-    }
+    let end = 8 * nodefile::size(t) as usize;
+    &t[end..]
 }
 
-// Whether the children in a part are what the table allows a node of a kind.
-fn kids_allowed(kids: &[u8], kind: u64) -> bool
-    requires { Fits kids.now × (kind < 19) }
-    ensures { (ks : List ℕ) → Kids kids.now ks → result ≡ allowed kind ks }
+// Whether the children in a part are as a row says: a walk over both. (Children take unequal room: it goes by what is left.)
+fn matches(row: &[Item], kids: &[u8]) -> bool
+    requires { Fits kids.now }
+    ensures { (ks : List ℕ) → Kids kids.now ks → result ≡ matches (map place_of row.now) ks }
 {
     let mut t = kids;
-    let mut row = code(kind);
-    while t.len() >= 8 {
-        row = rest(row, nodefile::kind(t));
-        let end = 8 * nodefile::size(t) as usize;
-        t = &t[end..];
+    for item in row {
+        match *item {
+            One(kinds) => {
+                if !head_in(t, kinds) {
+                    return false;
+                }
+                t = after(t);
+            }
+            Opt(kinds) => {
+                if head_in(t, kinds) {
+                    t = after(t);
+                }
+            }
+            Many(kinds) => {
+                while head_in(t, kinds) {
+                    t = after(t);
+                }
+            }
+        }
     }
-    if row / NEED % 2 == 0 {
-        return true;
-    }
-    // A Param may have no children.
-    if kind != kinds::PARAM {
-        return false;
-    }
-    if kids.len() == 0 {
-        return true;
-    }
-    false
+    t.is_empty()
+}
+
+// Whether the children in a part are what the table allows a node of a kind; a Param may have none.
+fn kids_allowed(kids: &[u8], kind: Kind) -> bool
+    requires { Fits kids.now }
+    ensures { (ks : List ℕ) → Kids kids.now ks → result ≡ allowed (number kind) ks }
+{
+    (kind == Kind::Param && kids.is_empty()) || matches(row(kind), kids)
 }
 
 // Number 8 of the whole list.
@@ -149,17 +137,21 @@ pub fn bad_children(ns: &[u8]) -> bool
     requires { Sound ns.now }
     ensures { Says result (BadChildren ns.now) }
 {
-    if nodefile::kind(ns) > 7 {
+    if kinds::role_of(ns) != Some(Role::Statement) {
         return true;
     }
     let mut t = ns;
+    // A node is judged with its children: the walk goes by what is left.
     while t.len() >= 8 {
         let end = 8 * nodefile::size(t) as usize;
-        if kids_allowed(&t[8..end], nodefile::kind(t)) {
-            t = &t[8..];
-        } else {
+        // Number 7 leaves no node without a kind.
+        let Some(kind) = kinds::of(t) else {
+            return true;
+        };
+        if !kids_allowed(&t[8..end], kind) {
             return true;
         }
+        t = &t[8..];
     }
     false
 }

@@ -1,51 +1,36 @@
 // Number 7: each node judged from its own stretch of the node list.
 ghost use Rattle.base.specs.Says.{Says};
+ghost use Rattle.nodefile.specs.Kinds.{number};
 ghost use Rattle.nodefile.specs.Kids.{Fits};
 ghost use Rattle.shape.specs.Nodes.{BadNodes};
 ghost use Rattle.shape.specs.Inside.Node.{BadValue, BadNode};
 
-use nodefile::kinds;
+use nodefile::kinds::{self, Kind};
 
 // Whether a part falls into whole nodes, one after the other.
 fn kids_fit(kids: &[u8]) -> bool
     ensures { Says result (Fits kids.now) }
 {
     let mut t = kids;
+    // Nodes take unequal room: the walk goes by what is left.
     while t.len() >= 8 {
-        let size = nodefile::size(t) as usize;
-        if size == 0 {
-            return false;
-        }
-        let end = 8 * size;
-        if end > t.len() {
+        let end = 8 * nodefile::size(t) as usize;
+        if end == 0 || end > t.len() {
             return false;
         }
         t = &t[end..];
     }
-    if t.len() == 0 {
-        return true;
-    }
-    false
+    t.is_empty()
 }
 
 // No such name, or a value where none belongs.
-fn bad_value(kind: u64, value: u64, names: u64) -> bool
-    ensures { Says result (BadValue names kind value) }
+fn bad_value(kind: Kind, value: u64, names: u64) -> bool
+    ensures { Says result (BadValue names (number kind) value) }
 {
     match kind {
-        8 | 11 => {
-            if value < names {
-                return false;
-            }
-            true
-        }
-        6 | 12 => false,
-        _ => {
-            if value == 0 {
-                return false;
-            }
-            true
-        }
+        Kind::Name | Kind::Ident => value >= names,
+        Kind::Def | Kind::Lambda => false,
+        _ => value != 0,
     }
 }
 
@@ -53,28 +38,17 @@ fn bad_value(kind: u64, value: u64, names: u64) -> bool
 fn bad_node(t: &[u8], names: u64) -> bool
     ensures { Says result (BadNode names t.now) }
 {
-    let kind = nodefile::kind(t);
-    if kind > kinds::TYPE {
-        return true;
+    let end = 8 * nodefile::size(t) as usize;
+    match kinds::of(t) {
+        None => true,
+        Some(kind) => {
+            nodefile::node_zero(t) != 0
+                || bad_value(kind, nodefile::value(t), names)
+                || end == 0
+                || end > t.len()
+                || !kids_fit(&t[8..end])
+        }
     }
-    if nodefile::node_zero(t) != 0 {
-        return true;
-    }
-    if bad_value(kind, nodefile::value(t), names) {
-        return true;
-    }
-    let size = nodefile::size(t) as usize;
-    if size == 0 {
-        return true;
-    }
-    let end = 8 * size;
-    if end > t.len() {
-        return true;
-    }
-    if kids_fit(&t[8..end]) {
-        return false;
-    }
-    true
 }
 
 // Number 7 of the whole list.
@@ -86,6 +60,7 @@ pub fn bad_nodes(ns: &[u8], names: u64) -> bool
         return true;
     }
     let mut t = ns;
+    // A node is judged with all that stands after it: the walk goes by what is left.
     while t.len() >= 8 {
         if bad_node(t, names) {
             return true;

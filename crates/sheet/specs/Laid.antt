@@ -1,6 +1,6 @@
 -- A list of numbers as bytes: each element a field of w bits, one after the other.
-use Rattle.std.specs.Prelude.{ℕ, ◌+◌, ◌*◌, ◌^◌, ◌≤◌, ◌<◌, ◌≡◌, refl, ◌⊎◌, List, length, get_or}
-use Rattle.std.proofs.Common.{sym, ap, ◌∙◌, subst, inl, inr, ⊎_elim, arith, mul-suc, mul-le-mul_left, add-one}
+use Rattle.std.specs.Prelude.{ℕ, ◌+◌, ◌*◌, ◌^◌, ◌≤◌, ◌<◌, ◌≡◌, refl, ◌⊎◌, List, length, get_or, map}
+use Rattle.std.proofs.Common.{sym, ap, ◌∙◌, subst, inl, inr, ⊎_elim, arith, mul-suc, mul-le-mul_left, add-one, map-id}
 use Rattle.std.proofs.Math.Decide.{ℕ_discrete}
 use Rattle.bits.specs.Field.{bit_of, field_of}
 use Rattle.bits.specs.Put.{Written}
@@ -29,3 +29,7 @@ laid_more {w} {xs} {s} {t} {u} {at} {n} {x} l p e h = record {
   other = λ i b. let m : w * (n + 1) ≡ w * n + w = ap (λ (k : ℕ). w * k) (add-one n) ∙ mul-suc w n in
       ⊎_elim (λ a. p.other i (inl (omega arith)) ∙ l.other i (inl a)) (λ a. p.other i (inr (omega arith)) ∙ l.other i (inr (omega arith))) b;
 }
+
+-- a list of numbers, each read as itself: what `put` leaves of u32 and of u64
+pub laid_itself : {w : ℕ} {xs s s' : List ℕ} {n at : ℕ} → Laid w (map (λ x. x) xs) n at s s' → Laid w xs n at s s'
+laid_itself l = rw map-id at l

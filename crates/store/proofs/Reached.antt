@@ -47,9 +47,6 @@ module _ {binds t₀ : List ℕ} {lo hi : ℕ} (g : Opening binds t₀ lo hi) wh
   pub opens_few : hi ≤ 2304
   opens_few = omega (arith, g.range.within, g.rel.image.made.few)
 
-  pub opens-start : Opens hi t₀
-  opens-start = let e : drop (hi - lo) g.bs ≡ [] = gone g.bs (hi - lo) (omega (arith, g.range.end)) in rw e g.rel
-
   pub record Next (k name : ℕ) (t : List ℕ) : Type 0 where
     pub small : name < 1024
     pub opens : length t ≡ 20864 → Opens k t → Opens (k - 1) (set (set t (5120 + (k - 1)) (get_or t name 0)) name (k - 1 + 1))
@@ -88,17 +85,11 @@ module _ {binds t₀ : List ℕ} {lo hi : ℕ} (g : Opening binds t₀ lo hi) wh
               (λ a. g.apart a.0 x a.1 (omega (arith, i)) (omega (arith, i)))
               (at_joined (drop (k - lo) g.bs) g.env j x q)
 
-  pub opens_end : (k : ℕ) (t : List ℕ) → k ≤ lo → Opens k t → Rel g.W (g.bs ++ g.env) g.ss g.cap g.st g.s (mem binds g.w t)
-  opens_end k t h r = let e : k - lo ≡ 0 = omega arith in rw e at r
-
 -- ---- unscope
 
 module _ {binds t₀ : List ℕ} {lo hi : ℕ} (g : Closing binds t₀ lo hi) where
   abbrev pub Closes : ℕ → List ℕ → Type 0
   Closes k t = Rel g.W (drop (k - lo) g.bs ++ g.env) g.ss g.cap g.st g.s (mem binds g.w t)
-
-  pub closes-start : Closes lo t₀
-  closes-start = let e : lo - lo ≡ 0 = omega arith in rw e g.rel
 
   pub record After (k name : ℕ) (t : List ℕ) : Type 0 where
     pub few : k < 2304

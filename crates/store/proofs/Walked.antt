@@ -1,5 +1,7 @@
 -- The loop of `hand`: back along the chain of a binding's slots, keeping the last slot found, which is the first in order.
-use Prim.Native.Nat.{ℕ, zero, suc, ◌+◌, ◌-◌, ◌<◌, ◌≤◌}
+use Rattle.std.specs.Prelude.{None, Some}
+use Rattle.std.specs.Prelude as rust
+use Prim.Native.Nat.{ℕ, zero, suc, ◌+◌, ◌<◌, ◌≤◌}
 use mathlib.Core.Path.{◌≡◌, refl, sym, ap, ap₂, ◌∙◌}
 use mathlib.Core.Bool.{cond}
 use mathlib.Core.List.{List, [], ◌∷◌, ◌++◌}
@@ -17,14 +19,19 @@ use Rattle.answer.specs.Records.{slot_scope}
 use Rattle.store.specs.Sections.{or_zero}
 use Rattle.store.specs.Words.{slot_word}
 use Rattle.store.specs.Image.{last_of, before, SlotsIn}
-use Rattle.store.specs.Hands.{Slotted}
+use Rattle.answer.specs.declared.ids.LocalSlotId.{LocalSlotId}
+use Rattle.store.specs.Hands.{Slotted, hand_of}
 use Rattle.store.proofs.Laws.Points.{absent_past, word_at_lem}
 use Rattle.store.proofs.Laws.Chain.{Last, last_is}
 
--- what is found so far: 0 for nothing, or one more than the slot
-abbrev pub best_of : ℕ → Option ℕ
-best_of zero = none
-best_of (suc k) = some k
+-- what is found so far
+abbrev pub best_of : rust.Option LocalSlotId → Option ℕ
+best_of None = none
+best_of (Some k) = some k.0
+
+hand_best : (best : rust.Option LocalSlotId) → hand_of (best_of best) ≡ best
+hand_best None = refl
+hand_best (Some k) = refl
 
 -- ---- lists
 
@@ -42,22 +49,22 @@ at_take (x ∷ xs) (suc j) (suc i) h = at_take xs j i (omega arith)
 -- ---- the loop
 
 -- at slot record c - 1, with `best` found after it: what is left are the slots before place c
-pub record Led (rs : List Slot) (s i c best : ℕ) : Type 0 where
+pub record Led (rs : List Slot) (s i c : ℕ) (best : rust.Option LocalSlotId) : Type 0 where
   pub few : c ≤ length rs
   pub here : (j : ℕ) (r : Slot) → c ≡ suc j → get_elem? rs j ≡ some r → r.id ≡ i
   pub hand : hand_in s i rs ≡ or_else (hand_in s i (take c rs)) (best_of best)
 
 -- what `found` gives at slot record j
-pub record Seen (w t : List ℕ) (s j best x : ℕ) : Type 0 where
-  pub here : slot_scope (get_or w (2048 + j) 0) ≡ s → x ≡ get_or t (16640 + j) 0 + 1
+pub record Seen (w t : List ℕ) (s j : ℕ) (best x : rust.Option LocalSlotId) : Type 0 where
+  pub here : slot_scope (get_or w (2048 + j) 0) ≡ s → x ≡ Some (record { 0 = get_or t (16640 + j) 0 })
   pub other : (slot_scope (get_or w (2048 + j) 0) ≡ s → ⊥) → x ≡ best
 
-pub led_end : {rs : List Slot} {s i c best : ℕ} → c ≤ 0 → Led rs s i c best → hand_in s i rs ≡ best_of best
+pub led_end : {rs : List Slot} {s i : ℕ} {best : rust.Option LocalSlotId} → Led rs s i 0 best → best ≡ hand_of (hand_in s i rs)
 unfolding hand_in first map_o or_else
-led_end {c = c} h l = let z : c ≡ 0 = omega arith in l.hand ∙ (rw z refl)
+led_end {best = best} l = sym (ap hand_of l.hand ∙ hand_best best)
 
 module _ {rs : List Slot} {P : ℕ → ℕ} {w t : List ℕ} (m : SlotsIn rs P w t) (s i : ℕ) where
-  pub led_start : i < 2304 → Led rs s i (get_or t (9728 + i) 0) 0
+  pub led_start : i < 2304 → Led rs s i (get_or t (9728 + i) 0) None
   led_start h =
       let l = last_is i rs in
       rw (m.tail i h) (record { few = l.few; here = l.here; hand = l.hand s ∙ sym (or_else_none _) })
@@ -67,47 +74,44 @@ module _ {rs : List Slot} {P : ℕ → ℕ} {w t : List ℕ} (m : SlotsIn rs P w
   unfolding before or_zero
   back_is j r e q = m.back j (omega (arith, m.few, at-below rs j r e)) ∙ (rw (e, q) refl)
 
-  found-is : (j best x : ℕ) (r : Slot) → get_elem? rs j ≡ some r → r.id ≡ i → Seen w t s j best x → or_else (cond (holds s i r) (some r.num) none) (best_of best) ≡ best_of x
+  found-is : (j : ℕ) (best x : rust.Option LocalSlotId) (r : Slot) → get_elem? rs j ≡ some r → r.id ≡ i → Seen w t s j best x → or_else (cond (holds s i r) (some r.num) none) (best_of best) ≡ best_of x
   unfolding holds or_else slot_word
   found-is j best x r e q f =
       let h : j < 4096 = omega (arith, m.few, at-below rs j r e) in
       let a : slot_scope (get_or w (2048 + j) 0) ≡ r.scope = omega (arith, m.rows j h, word_at_lem slot_word rs j r e, (m.sound j r e).0, (m.sound j r e).2) in
       elim (ℕ_discrete r.scope s) [
-        | yes z ↦ let y : x ≡ suc r.num = omega (arith, f.here (a ∙ z), m.nums j h, word_at_lem (λ (r : Slot). r.num) rs j r e) in rw (y, z, q, eqb_self s, eqb_self i) refl
+        | yes z ↦ let y : get_or t (16640 + j) 0 ≡ r.num = m.nums j h ∙ word_at_lem (λ (r : Slot). r.num) rs j r e in rw (f.here (a ∙ z), y, z, q, eqb_self s, eqb_self i) refl
         | no z ↦ let y : x ≡ best = f.other (λ u. z (sym a ∙ u)) in rw (y, eqb-not r.scope s z) refl
       ]
 
-  led_next : (c best x : ℕ) → 0 < c → Led rs s i c best → Seen w t s (c - 1) best x → (get_or t (12544 + (c - 1)) 0 < c) × Led rs s i (get_or t (12544 + (c - 1)) 0) x
-  led_next c best x p l f = go (opened (get_elem? rs (c - 1)))
+  led_next : (j : ℕ) (best x : rust.Option LocalSlotId) → Led rs s i (suc j) best → Seen w t s j best x → (get_or t (12544 + j) 0 < suc j) × Led rs s i (get_or t (12544 + j) 0) x
+  led_next j best x l f = go (opened (get_elem? rs j))
     where
-      go : Opened (get_elem? rs (c - 1)) → (get_or t (12544 + (c - 1)) 0 < c) × Led rs s i (get_or t (12544 + (c - 1)) 0) x
-      go (absent e) = absurd (omega (arith, l.few, absent_past rs (c - 1) e))
+      go : Opened (get_elem? rs j) → (get_or t (12544 + j) 0 < suc j) × Led rs s i (get_or t (12544 + j) 0) x
+      go (absent e) = absurd (omega (arith, l.few, absent_past rs j e))
       go (present r e) =
-          rw (back_is (c - 1) r e q) (
+          rw (back_is j r e q) (
             omega (arith, k.few, long),
             record {
               few = omega (arith, k.few, long, l.few);
-              here = λ j x u v. k.here j x u (at_take rs (c - 1) j (omega (arith, k.few, long)) ∙ v);
+              here = λ n x u v. k.here n x u (at_take rs j n (omega (arith, k.few, long)) ∙ v);
               hand = l.hand
-                  ∙ ap (λ (o : Option ℕ). or_else o (best_of best)) (ap (hand_in s i) front ∙ hand_snoc s i (take (c - 1) rs) r)
-                  ∙ or_else_assoc (hand_in s i (take (c - 1) rs)) _ (best_of best)
-                  ∙ ap₂ or_else (k.hand s ∙ ap (hand_in s i) (take-take (last_of i (take (c - 1) rs)) (c - 1) rs (omega (arith, k.few, long)))) (found-is (c - 1) best x r e q f);
+                  ∙ ap (λ (o : Option ℕ). or_else o (best_of best)) (ap (hand_in s i) (take_snoc rs j r e) ∙ hand_snoc s i (take j rs) r)
+                  ∙ or_else_assoc (hand_in s i (take j rs)) _ (best_of best)
+                  ∙ ap₂ or_else (k.hand s ∙ ap (hand_in s i) (take-take (last_of i (take j rs)) j rs (omega (arith, k.few, long)))) (found-is j best x r e q f);
             },
           )
         where
           q : r.id ≡ i
-          q = l.here (c - 1) r (omega arith) e
+          q = l.here j r refl e
 
-          k : Last i (take (c - 1) rs) (last_of i (take (c - 1) rs))
-          k = last_is i (take (c - 1) rs)
+          k : Last i (take j rs) (last_of i (take j rs))
+          k = last_is i (take j rs)
 
-          long : length (take (c - 1) rs) ≡ c - 1
-          long = length-take-le (c - 1) rs (omega (arith, l.few))
-
-          front : take c rs ≡ take (c - 1) rs ++ (r ∷ [])
-          front = let z : c ≡ suc (c - 1) = omega arith in ap (λ (n : ℕ). take n rs) z ∙ take_snoc rs (c - 1) r e
+          long : length (take j rs) ≡ j
+          long = length-take-le j rs (omega (arith, l.few))
 
 -- the same for any slots that the lists hold
-pub led_on : {w t : List ℕ} {s i c best x : ℕ} → 0 < c → Seen w t s (c - 1) best x → ((g : Slotted w t) → Led g.slots s i c best)
-    → (g : Slotted w t) → (get_or t (12544 + (c - 1)) 0 < c) × Led g.slots s i (get_or t (12544 + (c - 1)) 0) x
-led_on {s = s} {i} {c} {best} {x} p f l g = led_next g.are s i c best x p (l g) f
+pub led_on : {w t : List ℕ} {s i j : ℕ} {best x : rust.Option LocalSlotId} → Seen w t s j best x → ((g : Slotted w t) → Led g.slots s i (suc j) best)
+    → (g : Slotted w t) → (get_or t (12544 + j) 0 < suc j) × Led g.slots s i (get_or t (12544 + j) 0) x
+led_on {s = s} {i} {j} {best} {x} f l g = led_next g.are s i j best x (l g) f

@@ -1,6 +1,6 @@
 -- A block while its targets are collected, one after the other. `lexical` first merges all targets of a block into variables and then
 -- gives each a number and a slot; the code does both target by target. The state in between: as if the targets met so far were all.
-use Rattle.std.specs.Prelude.{ℕ, zero, suc, ◌+◌, ◌<◌, ◌≤◌, ◌≡◌, Bool, true, false, cond, List, [], ◌∷◌, ◌++◌, map, length, get_or, drop}
+use Rattle.std.specs.Prelude.{ℕ, zero, suc, ◌+◌, ◌<◌, ◌≤◌, ◌≡◌, Bool, true, false, cond, List, [], ◌∷◌, ◌++◌, map, length, get_or, drop, Result, IfOk, IfErr}
 use Rattle.std.proofs.Math.Option.{Option, none, some}
 use Rattle.std.proofs.Math.ListN.{get_elem?}
 use Rattle.lexical.specs.Lists.{place}
@@ -11,6 +11,7 @@ use Rattle.lexical.specs.State.{Binding, Slot, St}
 use Rattle.lexical.specs.Block.{fresh, slot_for, name_of}
 use Rattle.lexical.specs.First.{entry_slot}
 use Rattle.store.specs.declared.ids.State.{State}
+use Rattle.store.specs.declared.ids.Full.{Full}
 use Rattle.store.specs.Sections.{Mem, block_at}
 use Rattle.store.specs.Meanings.{EnvIn, RangesIn}
 use Rattle.store.specs.Rel.{World, Rel, Over, caps}
@@ -97,6 +98,6 @@ pub record InBlock (W : World) (env : List Binding) (ss : List ℕ) (E : BlockEn
   pub rel : Rel (block_world W E ts) env ss (caps E.st) (block_st E ts) s m
   pub known : E.local ≡ true → (n : ℕ) → n < 1024 → KnownAs E.first (place n (titles (vars_of E ts))) (get_or m.t (block_at + n) 0)
 
-pub record RB (W : World) (env : List Binding) (ss : List ℕ) (E : BlockEnv) (ts : List Target) (s : State) (m : Mem) : Type 0 where
-  pub over : s.full ≡ true → Over (block_st E ts)
-  pub rel : s.full ≡ false → InBlock W env ss E ts s m
+pub record RB (W : World) (env : List Binding) (ss : List ℕ) (E : BlockEnv) (ts : List Target) (s : Result State Full) (m : Mem) : Type 0 where
+  pub over : IfErr s (λ _. Over (block_st E ts))
+  pub rel : IfOk s (λ v. InBlock W env ss E ts v m)

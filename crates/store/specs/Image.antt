@@ -1,6 +1,6 @@
 -- How the state of `lexical`'s walks stands in the working lists: each of its lists in a section, in order, then zeros.
-use Rattle.std.specs.Prelude.{ℕ, zero, suc, ◌+◌, ◌<◌, ◌≤◌, ◌≡◌, Bool, true, false, cond, ◌⊎◌, List, [], ◌∷◌, eqb, length, get_or, take}
-use Rattle.std.proofs.Math.Option.{Option, none, some}
+use Rattle.std.specs.Prelude.{ℕ, suc, ◌<◌, ◌≤◌, ◌≡◌, Bool, true, cond, List, [], ◌∷◌, eqb, length, get_or, take}
+use Rattle.std.proofs.Math.Option.{some}
 use Rattle.std.proofs.Math.ListN.{get_elem?}
 use Rattle.lexical.specs.State.{Binding, Slot, Copy, Event, Named, St}
 use Rattle.lexical.specs.Block.{fresh_in}

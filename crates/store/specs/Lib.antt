@@ -6,3 +6,4 @@ pub mod Image
 pub mod Meanings
 pub mod Rel
 pub mod Blocks
+pub mod Noted

@@ -1,7 +1,7 @@
 -- How what names mean at a point of walk three stands in the working list t: the locals in reach, innermost first,
 -- the functions around, the module, the globals, and which stretch of the bindings each function has.
-use Rattle.std.specs.Prelude.{ℕ, ◌+◌, ◌<◌, ◌≤◌, ◌≡◌, Bool, true, false, List, [], ◌∷◌, length, get_or}
-use Rattle.std.proofs.Math.Option.{Option, none, some}
+use Rattle.std.specs.Prelude.{ℕ, ◌+◌, ◌<◌, ◌≤◌, ◌≡◌, true, List, [], ◌∷◌, length, get_or}
+use Rattle.std.proofs.Math.Option.{some}
 use Rattle.std.proofs.Math.ListN.{get_elem?}
 use Rattle.lexical.specs.Lists.{first, place, map_o}
 use Rattle.lexical.specs.Binders.{load_shown}

@@ -1,11 +1,12 @@
 -- The relation between a point of the walks and the working lists; and what a full list means.
-use Rattle.std.specs.Prelude.{ℕ, ◌+◌, ◌<◌, ◌≤◌, ◌≡◌, Bool, true, false, List, length, get_or}
+use Rattle.std.specs.Prelude.{ℕ, ◌+◌, ◌<◌, ◌≤◌, ◌≡◌, Bool, List, length, get_or, Result, IfOk, IfErr}
 use Rattle.std.proofs.Math.Option.{some}
 use Rattle.std.proofs.Math.ListN.{get_elem?}
 use Rattle.lexical.specs.Module.{File}
 use Rattle.lexical.specs.State.{Binding, St}
 use Rattle.lexical.specs.Records as rec
 use Rattle.store.specs.declared.ids.State.{State}
+use Rattle.store.specs.declared.ids.Full.{Full}
 use Rattle.store.specs.Sections.{Mem, block_at}
 use Rattle.store.specs.Image.{Image}
 use Rattle.store.specs.Meanings.{EnvIn, NamesIn, RangesIn}
@@ -37,10 +38,10 @@ pub data Over (st : St) : Type 0 where
   too_many_bindings : 2304 < length st.made → Over st
   too_many_errors : 2048 < length (rec.errors st.log) → Over st
 
--- `full` only if a list is; else the working lists are the state's
-pub record RC (W : World) (env : List Binding) (ss : List ℕ) (cap : ℕ → Bool) (st : St) (s : State) (m : Mem) : Type 0 where
-  pub over : s.full ≡ true → Over st
-  pub rel : s.full ≡ false → Rel W env ss cap st s m
+-- `Full` only if a list is; else the working lists are the state's
+pub record RC (W : World) (env : List Binding) (ss : List ℕ) (cap : ℕ → Bool) (st : St) (s : Result State Full) (m : Mem) : Type 0 where
+  pub over : IfErr s (λ _. Over st)
+  pub rel : IfOk s (λ v. Rel W env ss cap st v m)
 
-abbrev pub R : World → List Binding → List ℕ → St → State → Mem → Type 0
+abbrev pub R : World → List Binding → List ℕ → St → Result State Full → Mem → Type 0
 R W env ss st s m = RC W env ss (caps st) st s m

@@ -4,7 +4,7 @@ use Rattle.std.proofs.Math.Option.{some}
 use Rattle.std.proofs.Math.ListN.{get_elem?}
 use Rattle.lexical.specs.State.{Binding, St}
 use Rattle.store.specs.declared.ids.State.{State}
-use Rattle.store.specs.Sections.{Mem, mem}
+use Rattle.store.specs.Sections.{mem}
 use Rattle.store.specs.Meanings.{Range}
 use Rattle.store.specs.Rel.{World, Rel}
 

@@ -41,8 +41,6 @@ t_length = 20864
 
 pub record Long (m : Mem) : Type 0 where
   pub binds : many_bindings ≤ length m.binds
-  pub w : length m.w ≡ w_length
-  pub t : length m.t ≡ t_length
 
 -- sections of w: the nodes' answers, the slots, the copies and the errors in order of making, and the scopes
 abbrev pub nodes_at : ℕ

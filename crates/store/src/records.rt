@@ -1,17 +1,13 @@
 // The bindings' records, the nodes' answers and the errors.
-ghost use Rattle.std.specs.Prelude.{◌≡◌, ◌+◌, ◌≤◌, ◌<◌, length, get_or, set};
+ghost use Rattle.std.specs.Prelude.{◌≡◌, ◌+◌, ◌<◌, length, get_or, set};
 ghost use Rattle.lexical.specs.Records.{bit};
 ghost use Rattle.answer.specs.Records.{binding_name, binding_slot};
+ghost use Rattle.answer.specs.Classes.{class_number};
 ghost use Rattle.store.specs.Words.{binding_word, captured_word, again_word, answer_word, pair_word};
-ghost use Rattle.store.specs.Sections.{errors_at, half_word, many_nodes, many_slot_numbers, w_length};
+ghost use Rattle.store.specs.Sections.{errors_at, half_word, many_nodes, many_slot_numbers};
 
-use crate::sections::ERRORS;
-
-fn one(b: bool) -> u64
-    ensures { (result ≡ bit b) × (result ≤ 1) }
-{
-    if b { 1 } else { 0 }
-}
+use crate::sections::{ERRORS, Words};
+use answer::NodeClass;
 
 // A fresh binding's record: not captured.
 pub fn put_binding(
@@ -31,11 +27,11 @@ pub fn put_binding(
     binds[id] = answer::binding::make(
         name as u64,
         source as u64,
-        one(from_module),
-        one(public),
-        one(any),
+        u64::from(from_module),
+        u64::from(public),
+        u64::from(any),
         0,
-        one(local),
+        u64::from(local),
         slot as u64,
     );
 }
@@ -83,16 +79,16 @@ pub fn bind_again(binds: &mut [u64], id: usize, public: bool)
 }
 
 // A node's answer.
-pub fn put_answer(w: &mut [u32], at: usize, class: usize, slot: usize, id: usize)
-    requires { (at < many_nodes) × (class < 4) × (slot < many_slot_numbers) × (id < many_slot_numbers) × (length w.old ≡ w_length) }
-    ensures { w.new ≡ set w.old at (answer_word class slot id) }
+pub fn put_answer(w: &mut Words, at: usize, class: NodeClass, slot: usize, id: usize)
+    requires { (at < many_nodes) × (slot < many_slot_numbers) × (id < many_slot_numbers) }
+    ensures { w.new ≡ set w.old at (answer_word (class_number class) slot id) }
 {
-    w[at] = answer::node::make(class as u64, slot as u64, id as u64);
+    w[at] = answer::node::make(class.number(), slot as u64, id as u64);
 }
 
 // Error number e.
-pub fn put_error(w: &mut [u32], e: usize, at: usize, code: usize)
-    requires { (e < many_nodes) × (at < many_nodes) × (code < 3) × (length w.old ≡ w_length) }
+pub fn put_error(w: &mut Words, e: usize, at: usize, code: usize)
+    requires { (e < many_nodes) × (at < many_nodes) × (code < 3) }
     ensures { w.new ≡ set w.old (errors_at + e) (pair_word at code) }
 {
     w[ERRORS + e] = answer::error::make(at as u64, code as u64);

@@ -1,4 +1,5 @@
 // Where each section of the working lists starts; store/specs/Sections has the same places for the proofs.
+// Each is one array, not a struct of arrays: the relation to `lexical` (specs/Image, Meanings, Rel) speaks of these places in it.
 
 // w: the nodes' answers from the front, then the slots, the copies and the errors in order of making, then the scopes.
 pub const SLOTS: usize = 2048;
@@ -45,3 +46,7 @@ pub const LOADS_SHOWN: usize = 20863;
 pub const W_LENGTH: usize = 12544;
 
 pub const T_LENGTH: usize = 20864;
+
+pub type Words = [u32; W_LENGTH];
+
+pub type Table = [u16; T_LENGTH];

@@ -1,29 +1,19 @@
 // A stream of byte strings, each preceded by its length (4 bytes, most significant first), and how a reader fills a buffer.
 #![tactic(auto)]
 
-ghost use Rattle.std.specs.Prelude.{◌≡◌, ◌<◌, ◌≤◌, length, take, false, IfOk, IfSome, IsTrue};
+ghost use Rattle.std.specs.Prelude.{◌≡◌, ◌<◌, ◌≤◌, length, take, IfOk, IfSome};
 ghost use Rattle.std.specs.Io.KnownBytes.{Consumes, IsAtEnd};
 ghost use Rattle.std.specs.Io.{ReadsAtMost};
 ghost use Rattle.stream.specs.Frame.{Framed};
 
 use std::io;
 
-// Whether there was another byte string, and its length.
-#[derive(Clone, Copy)]
-pub struct Read {
-    pub more: bool,
-    pub length: usize,
-}
+// How much of a file a program reads: none that is accepted is longer. Of a longer one standard input gives the first so many bytes, which have its
+// answer (`judged_front`, crate judge); a stream ends at it. Each program has the room itself: no function can hand one out without a heap.
+pub const MOST_BYTES: usize = 65536;
 
-fn ended() -> Read
-    ensures over { result.more ≡ false }
-    ensures none { result.length ≡ 0 }
-{
-    Read {
-        more: false,
-        length: 0,
-    }
-}
+// How many byte strings a program takes from a stream; no stream has so many.
+pub const MOST_STRINGS: u64 = 4294967295;
 
 // Reads until buf is full or the input ends; how many bytes that put at the front of buf.
 pub fn fill<R: io::Read>(input: &mut R, buf: &mut [u8]) -> io::Result<usize>
@@ -44,25 +34,25 @@ pub fn fill<R: io::Read>(input: &mut R, buf: &mut [u8]) -> io::Result<usize>
     Ok(done)
 }
 
-// Reads the next one into the front of buf; none at the end of the stream, or where one is longer than buf or cut short.
-pub fn next<R: io::Read>(input: &mut R, buf: &mut [u8]) -> io::Result<Read>
-    ensures within { IfOk result (λ r. r.length ≤ length buf.new) }
-    ensures whole { IfOk result (λ r. r.length ≡ length (take r.length buf.new)) }
-    ensures framed { IfOk result (λ r. IsTrue r.more → Framed (R.remaining input.old) (R.remaining input.new) r.length (take r.length buf.new)) }
+// Reads the next one into the front of buf, and says how long it is; none at the end of the stream, or where one is longer than buf or cut short.
+pub fn next<R: io::Read>(input: &mut R, buf: &mut [u8]) -> io::Result<Option<usize>>
+    ensures within { IfOk result (λ r. IfSome r (λ n. n ≤ length buf.new)) }
+    ensures whole { IfOk result (λ r. IfSome r (λ n. n ≡ length (take n buf.new))) }
+    ensures framed { IfOk result (λ r. IfSome r (λ n. Framed (R.remaining input.old) (R.remaining input.new) n (take n buf.new))) }
     ensures kept { length buf.new ≡ length buf.old }
 {
     let mut head = [0u8; 4];
     let got = fill(input, &mut head)?;
     if got != 4 {
-        return Ok(ended());
+        return Ok(None);
     }
     let length = bits::field(&head, 0, 32) as usize;
     if length > buf.len() {
-        return Ok(ended());
+        return Ok(None);
     }
-    let n = fill(input, &mut buf[0..length])?;
+    let n = fill(input, &mut buf[..length])?;
     if n != length {
-        return Ok(ended());
+        return Ok(None);
     }
-    Ok(Read { more: true, length })
+    Ok(Some(length))
 }

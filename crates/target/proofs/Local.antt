@@ -1,7 +1,7 @@
 -- A new local: a binding, a fresh slot of its scope, and the Name's record.
 use Prim.Native.Nat.{ℕ, ◌+◌, ◌<◌, ◌≤◌}
 use mathlib.Core.Path.{◌≡◌, refl, sym, ◌∙◌}
-use mathlib.Core.Bool.{Bool, true, false, cond, true≢false}
+use mathlib.Core.Bool.{Bool, true, false, cond}
 use mathlib.Core.List.{List, [], ◌∷◌, ◌++◌}
 use mathlib.Core.Option.{none}
 use native.Mathlib.Omega.{arith}
@@ -12,8 +12,10 @@ use Rattle.lexical.specs.State.{Binding}
 use Rattle.lexical.specs.Block.{slot_for}
 use Rattle.lexical.specs.Records.{bit}
 use Rattle.answer.specs.Records.{scope_slots}
+use Rattle.std.specs.Prelude.{Ok}
+use Rattle.store.proofs.Laws.Lengths.{Lent}
 use Rattle.store.specs.declared.ids.State.{State}
-use Rattle.store.specs.Sections.{mem, Long}
+use Rattle.store.specs.Sections.{mem}
 use Rattle.store.specs.Words.{binding_word, answer_word, pair_word, more_word}
 use Rattle.store.specs.Image.{MadeIn, SlotsIn}
 use Rattle.store.specs.Rel.{World, caps}
@@ -47,7 +49,7 @@ module _ {W : World} {env : List Binding} {ss : List ℕ} {E : BlockEnv} {ts : L
   pub local_few : s.slots < 4096 → slot_after E ts < 4096
   local_few h = omega (arith, r.facts.slot_local l (length (vars_of E ts)), fresh-count E l ts, fresh_few E.scope (block_st E ts).slots, (parts r).slots_are)
 
-  module _ (long : Long (mem binds w t)) (name : x.name < 1024) (node : x.node < 2048) (id-few : id_after E ts < 2304) (k-few : s.slots < 4096) where
+  module _ (long : Lent (mem binds w t)) (name : x.name < 1024) (node : x.node < 2048) (id-few : id_after E ts < 2304) (k-few : s.slots < 4096) where
     -- the lists on the way
     abbrev w₁ : List ℕ
     w₁ = set w x.node (answer_word (cond E.local 2 1) (slot_after E ts) (id_after E ts))
@@ -112,16 +114,13 @@ module _ {W : World} {env : List Binding} {ss : List ℕ} {E : BlockEnv} {ts : L
 -- ---- `new_local`
 
 module _ {name at scope : ℕ} {s : State} {binds w t : List ℕ} (g : Fresh name at scope true s (mem binds w t)) where
-  pub scope_few : scope < 256
-  scope_few = rw (← g.scope_is) g.rel.facts.scope_small
-
   pub slot_is : (num : ℕ) → num ≡ scope_slots (get_or w (12288 + scope) 0) → num ≡ slot_after g.E g.ts
   slot_is num e = e ∙ (rw (← g.scope_is) (local_slot g.rel (a_target at name true true) g.unknown g.local_is))
 
   pub slot_few : (num : ℕ) → s.slots < 4096 → num ≡ scope_slots (get_or w (12288 + scope) 0) → num < 4096
   slot_few num h e = rw (slot_is num e) (local_few g.rel (a_target at name true true) g.unknown g.local_is h)
 
-pub local_done : {name at scope : ℕ} {any public : Bool} {s : State} {binds w t binds' w₁ w' t₁ t₂ t' : List ℕ} (num : ℕ) → Long (mem binds w t) → s.bindings < 2304 → s.slots < 4096
+pub local_done : {name at scope : ℕ} {any public : Bool} {s : State} {binds w t binds' w₁ w' t₁ t₂ t' : List ℕ} (num : ℕ) → Lent (mem binds w t) → s.bindings < 2304 → s.slots < 4096
     → num ≡ scope_slots (get_or w (12288 + scope) 0)
     → binds' ≡ set binds s.bindings (binding_word name at (bit false) (bit public) (bit any) 0 (bit true) num)
     → w₁ ≡ set w at (answer_word 2 num s.bindings)
@@ -129,15 +128,15 @@ pub local_done : {name at scope : ℕ} {any public : Bool} {s : State} {binds w 
     → t₁ ≡ set t (4096 + name) (s.bindings + 1)
     → t₂ ≡ set t₁ (7424 + s.bindings) scope
     → t' ≡ set (set (set t₂ (16640 + s.slots) num) (12544 + s.slots) (get_or t₂ (9728 + s.bindings) 0)) (9728 + s.bindings) (s.slots + 1)
-    → FreshDone name at scope true any public s (mem binds w t) (one_local s) (mem binds' w' t')
+    → FreshDone name at scope true any public s (mem binds w t) (Ok (one_local s)) (mem binds' w' t')
 local_done {name} {at} {scope} {any} {public} {s} {binds} {w} {t} {binds'} {w₁} {w'} {t₁} {t₂} {t'} num long id-few k-few n b a p k o q = record { right = λ g. go g }
   where
     go : (g : Fresh name at scope true s (mem binds w t))
-        → RB g.W g.env g.ss g.E (g.ts ++ (a_target at name any public ∷ [])) (one_local s) (mem binds' w' t')
+        → RB g.W g.env g.ss g.E (g.ts ++ (a_target at name any public ∷ [])) (Ok (one_local s)) (mem binds' w' t')
     go g =
         record {
-          over = λ f. absurd (true≢false (sym f ∙ g.not_full));
-          rel = λ _. rw (binds_are, w_are, t_are) (local_made g.rel x g.unknown g.local_is long g.small g.node (omega (arith, id_is)) k-few);
+          over = tt;
+          rel = rw (binds_are, w_are, t_are) (local_made g.rel x g.unknown g.local_is long g.small g.node (omega (arith, id_is)) k-few);
         }
       where
         x : Target

@@ -11,8 +11,10 @@ use Rattle.lexical.specs.Lists.{place}
 use Rattle.lexical.specs.Binders.{Target, Var, new_var}
 use Rattle.lexical.specs.State.{Binding}
 use Rattle.lexical.specs.Records.{bit}
+use Rattle.std.specs.Prelude.{Ok}
+use Rattle.store.proofs.Laws.Lengths.{Lent}
 use Rattle.store.specs.declared.ids.State.{State}
-use Rattle.store.specs.Sections.{mem, Long, or_zero}
+use Rattle.store.specs.Sections.{mem, or_zero}
 use Rattle.store.specs.Words.{binding_word, answer_word}
 use Rattle.store.specs.Image.{Sound, MadeIn}
 use Rattle.store.specs.Rel.{World, caps}
@@ -44,7 +46,7 @@ module _ {W : World} {env : List Binding} {ss : List ℕ} {E : BlockEnv} {ts : L
   pub module_slot_lem : slot_after E ts ≡ id_after E ts
   module_slot_lem = omega (arith, r.facts.slot_module l (length (vars_of E ts)) (merge-length E.vars ts), r.facts.first_module l)
 
-  module _ (long : Long (mem binds w t)) (name : x.name < 1024) (node : x.node < 2048) (id-few : id_after E ts < 2304) where
+  module _ (long : Lent (mem binds w t)) (name : x.name < 1024) (node : x.node < 2048) (id-few : id_after E ts < 2304) where
     made : MadeIn (block_st E (ts ++ (x ∷ []))).made (caps E.st) (set binds (id_after E ts) (binding_word x.name x.node (bit false) (bit x.public) (bit x.any) 0 (bit E.local) (slot_after E ts))) (set t (1024 + x.name) (id_after E ts + 1))
     unfolding placed new_var
     made = rw (made_new E ts x new)
@@ -85,19 +87,19 @@ module _ {W : World} {env : List Binding} {ss : List ℕ} {E : BlockEnv} {ts : L
 
 -- ---- `new_module`
 
-pub module_done : {name at : ℕ} {any public : Bool} {s : State} {binds w t binds' w' t' : List ℕ} (slot : ℕ) → Long (mem binds w t) → s.bindings < 2304 → slot ≡ s.bindings
-    → binds' ≡ set binds s.bindings (binding_word name at (bit false) (bit public) (bit any) 0 (bit false) slot)
-    → w' ≡ set w at (answer_word 1 slot s.bindings)
+pub module_done : {name at : ℕ} {any public : Bool} {s : State} {binds w t binds' w' t' : List ℕ} → Lent (mem binds w t) → s.bindings < 2304
+    → binds' ≡ set binds s.bindings (binding_word name at (bit false) (bit public) (bit any) 0 (bit false) s.bindings)
+    → w' ≡ set w at (answer_word 1 s.bindings s.bindings)
     → t' ≡ set t (1024 + name) (s.bindings + 1)
-    → FreshDone name at 0 false any public s (mem binds w t) (one_module s) (mem binds' w' t')
-module_done {name} {at} {any} {public} {s} {binds} {w} {t} {binds'} {w'} {t'} slot long id-few q b a k = record { right = λ g. go g }
+    → FreshDone name at 0 false any public s (mem binds w t) (Ok (one_module s)) (mem binds' w' t')
+module_done {name} {at} {any} {public} {s} {binds} {w} {t} {binds'} {w'} {t'} long id-few b a k = record { right = λ g. go g }
   where
     go : (g : Fresh name at 0 false s (mem binds w t))
-        → RB g.W g.env g.ss g.E (g.ts ++ (a_target at name any public ∷ [])) (one_module s) (mem binds' w' t')
+        → RB g.W g.env g.ss g.E (g.ts ++ (a_target at name any public ∷ [])) (Ok (one_module s)) (mem binds' w' t')
     go g =
         record {
-          over = λ f. absurd (true≢false (sym f ∙ g.not_full));
-          rel = λ _. rw (binds_are, w_are, t_are) (module_made g.rel x g.unknown g.local_is long g.small g.node (omega (arith, id_is)));
+          over = tt;
+          rel = rw (binds_are, w_are, t_are) (module_made g.rel x g.unknown g.local_is long g.small g.node (omega (arith, id_is)));
         }
       where
         x : Target
@@ -106,14 +108,14 @@ module_done {name} {at} {any} {public} {s} {binds} {w} {t} {binds'} {w'} {t'} sl
         id_is : s.bindings ≡ id_after g.E g.ts
         id_is = new-number g.rel x g.unknown
 
-        num_is : slot ≡ slot_after g.E g.ts
-        num_is = q ∙ id_is ∙ sym (module_slot_lem g.rel x g.unknown g.local_is)
+        slot_is : slot_after g.E g.ts ≡ id_after g.E g.ts
+        slot_is = module_slot_lem g.rel x g.unknown g.local_is
 
         binds_are : binds' ≡ set binds (id_after g.E g.ts) (binding_word name at (bit false) (bit public) (bit any) 0 (bit g.E.local) (slot_after g.E g.ts))
-        binds_are = b ∙ (rw (num_is, id_is, g.local_is) refl)
+        binds_are = b ∙ (rw (slot_is, id_is, g.local_is) refl)
 
         w_are : w' ≡ set w at (answer_word (cond g.E.local 2 1) (slot_after g.E g.ts) (id_after g.E g.ts))
-        w_are = a ∙ (rw (num_is, id_is, g.local_is) refl)
+        w_are = a ∙ (rw (slot_is, id_is, g.local_is) refl)
 
         t_are : t' ≡ set t (1024 + name) (id_after g.E g.ts + 1)
         t_are = k ∙ (rw id_is refl)

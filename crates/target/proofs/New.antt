@@ -1,7 +1,7 @@
 -- A name that the block does not have, of a local or of the module: its binding's number and what is known of it, and what a full list means.
 use Prim.Native.Nat.{ℕ, suc, ◌+◌, ◌<◌, ◌≤◌}
 use mathlib.Core.Path.{◌≡◌, refl, sym, ap, ◌∙◌}
-use mathlib.Core.Bool.{Bool, true, false, true≢false}
+use mathlib.Core.Bool.{Bool, true, false}
 use mathlib.Core.List.{List, [], ◌∷◌, ◌++◌}
 use mathlib.Core.Option.{none, some}
 use native.Mathlib.Omega.{arith}
@@ -10,12 +10,14 @@ use Rattle.lexical.specs.Lists.{place}
 use Rattle.lexical.specs.Binders.{Target, Var, new_var}
 use Rattle.lexical.specs.State.{Binding}
 use Rattle.lexical.proofs.Laws.Adds.{captured-fresh}
+use Rattle.std.specs.Prelude.{Err}
 use Rattle.store.specs.declared.ids.State.{State}
+use Rattle.store.specs.declared.ids.Full.{Full}
 use Rattle.store.specs.Sections.{Mem}
 use Rattle.store.specs.Image.{Sound}
 use Rattle.store.specs.Rel.{World, Over, too_many_slots, too_many_bindings, caps}
 use Rattle.store.specs.Blocks.{BlockEnv, titles, placed, vars_of, block_st, InBlock}
-use Rattle.target.specs.Target.{a_target, Fresh, FreshDone}
+use Rattle.target.specs.Target.{a_target, FreshDone}
 use Rattle.target.specs.Noted.{titles-new, place-new, place_other}
 use Rattle.target.specs.Blocks.{made_count, slots_count, vars_new}
 use Rattle.target.proofs.Kept.{Listed}
@@ -29,10 +31,10 @@ slot_after E ts = E.slot_at (length (vars_of E ts))
 
 -- the counts after it
 abbrev pub one_local : State → State
-one_local s = record { bindings = s.bindings + 1; slots = s.slots + 1; copies = s.copies; errors = s.errors; level = s.level; full = s.full }
+one_local s = record { bindings = s.bindings + 1; slots = s.slots + 1; copies = s.copies; errors = s.errors; level = s.level }
 
 abbrev pub one_module : State → State
-one_module s = record { bindings = s.bindings + 1; slots = s.slots; copies = s.copies; errors = s.errors; level = s.level; full = s.full }
+one_module s = record { bindings = s.bindings + 1; slots = s.slots; copies = s.copies; errors = s.errors; level = s.level }
 
 module _ {W : World} {env : List Binding} {ss : List ℕ} {E : BlockEnv} {ts : List Target} {s : State} {m : Mem} (r : InBlock W env ss E ts s m)
     (x : Target) (new : place x.name (titles (vars_of E ts)) ≡ none) where
@@ -77,12 +79,8 @@ module _ {W : World} {env : List Binding} {ss : List ℕ} {E : BlockEnv} {ts : L
 
 -- ---- `new_local` and `new_module` where a list is full
 
-fresh-full : {name at scope : ℕ} {local any public : Bool} {s r : State} {m : Mem} → r.full ≡ true → ((g : Fresh name at scope local s m) → Over (block_st g.E (g.ts ++ (a_target at name any public ∷ []))))
-    → FreshDone name at scope local any public s m r m
-fresh-full f h = record { right = λ g. record { over = λ _. h g; rel = λ q. absurd (true≢false (sym f ∙ q)) } }
+pub fresh_many : {name at scope : ℕ} {local any public : Bool} {s : State} {e : Full} {m : Mem} → 2304 ≤ s.bindings → FreshDone name at scope local any public s m (Err e) m
+fresh_many {name} {at} {any = any} {public = public} h = record { right = λ g. record { over = new_over g.rel (a_target at name any public) g.unknown h; rel = tt } }
 
-pub fresh_many : {name at scope : ℕ} {local any public : Bool} {s r : State} {m : Mem} → r.full ≡ true → 2304 ≤ s.bindings → FreshDone name at scope local any public s m r m
-fresh_many {name} {at} {any = any} {public = public} f h = fresh-full f (λ g. new_over g.rel (a_target at name any public) g.unknown h)
-
-pub fresh_slots : {name at scope : ℕ} {any public : Bool} {s r : State} {m : Mem} → r.full ≡ true → 4096 ≤ s.slots → FreshDone name at scope true any public s m r m
-fresh_slots {name} {at} {any = any} {public = public} f h = fresh-full f (λ g. new_over_slots g.rel (a_target at name any public) g.unknown g.local_is h)
+pub fresh_slots : {name at scope : ℕ} {any public : Bool} {s : State} {e : Full} {m : Mem} → 4096 ≤ s.slots → FreshDone name at scope true any public s m (Err e) m
+fresh_slots {name} {at} {any = any} {public = public} h = record { right = λ g. record { over = new_over_slots g.rel (a_target at name any public) g.unknown g.local_is h; rel = tt } }

@@ -1,7 +1,7 @@
 -- A name that the block has: its binding is bound again, and the Name gets its record.
 use Prim.Native.Nat.{ℕ, ◌+◌, ◌<◌, ◌≤◌}
-use mathlib.Core.Path.{◌≡◌, refl, sym, ap, ◌∙◌}
-use mathlib.Core.Bool.{Bool, true, cond, true≢false}
+use mathlib.Core.Path.{◌≡◌, refl, ap, ◌∙◌}
+use mathlib.Core.Bool.{Bool, true, cond}
 use mathlib.Core.List.{List, [], ◌∷◌, ◌++◌}
 use mathlib.Core.Option.{some}
 use native.Mathlib.Omega.{arith}
@@ -10,6 +10,7 @@ use Rattle.lexical.specs.Lists.{place}
 use Rattle.lexical.specs.Binders.{Target, Var, again}
 use Rattle.lexical.specs.State.{Binding}
 use Rattle.answer.specs.Records.{binding_slot}
+use Rattle.std.specs.Prelude.{Ok}
 use Rattle.store.specs.declared.ids.State.{State}
 use Rattle.store.specs.Sections.{mem}
 use Rattle.store.specs.Words.{answer_word, again_word}
@@ -82,11 +83,11 @@ pub again-done : {id at : ℕ} {local public : Bool} {s : State} {binds w binds'
     → AgainDone id at local public s binds w binds' w'
 again-done {id} {at} {local} {public} {s} {binds} {w} {binds'} {w'} class slot long long_w b c l a = record { right = λ g any. go g any }
   where
-    go : (g : Again id at local s binds w) (any : Bool) → RB g.W g.env g.ss g.E (g.ts ++ (a_target at g.name any public ∷ [])) s (mem binds' w' g.t)
+    go : (g : Again id at local s binds w) (any : Bool) → RB g.W g.env g.ss g.E (g.ts ++ (a_target at g.name any public ∷ [])) (Ok s) (mem binds' w' g.t)
     go g any =
         record {
-          over = λ f. absurd (true≢false (sym f ∙ g.not_full));
-          rel = λ _. rw (b', a') (renewed g.rel x g.k g.known long long_w g.node);
+          over = tt;
+          rel = rw (b', a') (renewed g.rel x g.k g.known long long_w g.node);
         }
       where
         x : Target

@@ -1,7 +1,7 @@
 -- Any target: what the block has for its name, its visibility, and the way that it takes.
 use Prim.Native.Nat.{ℕ, ◌+◌, ◌-◌, ◌<◌, ◌≤◌}
 use mathlib.Core.Path.{◌≡◌, refl, sym, ◌∙◌}
-use mathlib.Core.Bool.{Bool, true, false, cond, not, ◌&&◌, ◌||◌, true≢false}
+use mathlib.Core.Bool.{Bool, true, false, cond, not, ◌&&◌, ◌||◌}
 use mathlib.Core.List.{List}
 use mathlib.Core.Option.{Option, none, some}
 use native.Mathlib.Omega.{arith}
@@ -11,7 +11,9 @@ use Rattle.lexical.specs.Lists.{place, Tested, was, wasnt, tested}
 use Rattle.lexical.specs.Binders.{Target, load_shown, visible, target}
 use Rattle.lexical.specs.State.{Binding}
 use Rattle.lexical.specs.Records.{bit}
+use Rattle.std.specs.Prelude.{Result, Ok, Err}
 use Rattle.store.specs.declared.ids.State.{State}
+use Rattle.store.specs.declared.ids.Full.{Full}
 use Rattle.store.specs.declared.ids.Block.{Block}
 use Rattle.store.specs.declared.ids.Marks.{Marks}
 use Rattle.store.specs.Sections.{Mem, mem, plus}
@@ -63,9 +65,9 @@ target_is {W} r marks at name public h e =
 
 -- ---- the ghosts of the three ways
 
-module _ {name at : ℕ} {b : Block} {s : State} {binds w t : List ℕ} (full : s.full ≡ false) (x : ℕ) (e : x ≡ get_or t (cond b.local 4096 1024 + name) 0) (g : Meets name at b s (mem binds w t)) where
+module _ {name at : ℕ} {b : Block} {s : State} {binds w t : List ℕ} (x : ℕ) (e : x ≡ get_or t (cond b.local 4096 1024 + name) 0) (g : Meets name at b (Ok s) (mem binds w t)) where
   pub seen : KnownAs g.E.first (place name (titles (vars_of g.E g.ts))) x
-  seen = rw (e, g.is.local_is) (known_as (g.rel.rel full) name g.small)
+  seen = rw (e, g.is.local_is) (known_as g.rel.rel name g.small)
 
   pub seen-some : b.first < x → (k : ℕ) × (place name (titles (vars_of g.E g.ts)) ≡ some k) × (x - 1 ≡ g.E.first + k)
   seen-some h = known_some g.E.first _ x seen (omega (arith, g.is.first-is))
@@ -78,10 +80,9 @@ module _ {name at : ℕ} {b : Block} {s : State} {binds w t : List ℕ} (full : 
     E = g.E;
     ts = g.ts;
     t = t;
-    rel = g.rel.rel full;
+    rel = g.rel.rel;
     local_is = g.is.local_is;
     node = g.node;
-    not_full = full;
     name = name;
     k = (seen-some h).0;
     known = (seen-some h).1;
@@ -98,12 +99,11 @@ module _ {name at : ℕ} {b : Block} {s : State} {binds w t : List ℕ} (full : 
     ss = g.ss;
     E = g.E;
     ts = g.ts;
-    rel = g.rel.rel full;
+    rel = g.rel.rel;
     local_is = l;
     scope_is = c;
     node = g.node;
     small = g.small;
-    not_full = full;
     unknown = seen_none h;
   }
 
@@ -111,21 +111,21 @@ module _ {name at : ℕ} {b : Block} {s : State} {binds w t : List ℕ} (full : 
   met-local h l = met-fresh b.scope.0 true h (sym g.is.local_is ∙ l) (sym g.is.scope_is)
 
   abbrev pub met-module : x ≤ b.first → b.local ≡ false → Fresh name at 0 false s (mem binds w t)
-  met-module h l = met-fresh 0 false h (sym g.is.local_is ∙ l) ((g.rel.rel full).facts.scope_module (sym g.is.local_is ∙ l))
+  met-module h l = met-fresh 0 false h (sym g.is.local_is ∙ l) (g.rel.rel.facts.scope_module (sym g.is.local_is ∙ l))
 
 -- ---- and what they come to
 
--- `full` already: a block only grows
-pub target-full : {name at : ℕ} {b : Block} {marks : Marks} {s : State} {m : Mem} → s.full ≡ true → DoneTarget name at b marks s m s m
-target-full f = record { right = λ g. record { over = λ q. over_more g.E g.ts _ (g.rel.over q); rel = λ q. absurd (true≢false (sym f ∙ q)) } }
+-- full already: a block only grows
+pub target-full : {name at : ℕ} {b : Block} {marks : Marks} {e e' : Full} {m : Mem} → DoneTarget name at b marks (Err e) m (Err e') m
+target-full = record { right = λ g. record { over = over_more g.E g.ts _ g.rel.over; rel = tt } }
 
-module _ {name at : ℕ} {b : Block} {marks : Marks} {s : State} {binds w t : List ℕ} {public : Bool} (full : s.full ≡ false) (x : ℕ) (e : x ≡ get_or t (cond b.local 4096 1024 + name) 0)
+module _ {name at : ℕ} {b : Block} {marks : Marks} {s : State} {binds w t : List ℕ} {public : Bool} (x : ℕ) (e : x ≡ get_or t (cond b.local 4096 1024 + name) 0)
     (v : public ≡ (marks.param || (not (eqb (get_or t (3072 + name) 0) 1) && (not marks.load || eqb (get_or t 20863 0) 1)))) where
-  pub target-again : {r : State} {binds' w' : List ℕ} → b.first < x → r ≡ s → AgainDone (x - 1) at b.local public s binds w binds' w' → DoneTarget name at b marks s (mem binds w t) r (mem binds' w' t)
-  target-again h q d = record { right = λ g. rw (target_is (g.rel.rel full) marks at name public g.small v, q) (d.right (met-again full x e g h) marks.in_loop) }
+  pub target-again : {r : State} {binds' w' : List ℕ} → b.first < x → r ≡ s → AgainDone (x - 1) at b.local public s binds w binds' w' → DoneTarget name at b marks (Ok s) (mem binds w t) (Ok r) (mem binds' w' t)
+  target-again h q d = record { right = λ g. rw (target_is g.rel.rel marks at name public g.small v, q) (d.right (met-again x e g h) marks.in_loop) }
 
-  pub target_local : {r : State} {m' : Mem} → x ≤ b.first → b.local ≡ true → FreshDone name at b.scope.0 true marks.in_loop public s (mem binds w t) r m' → DoneTarget name at b marks s (mem binds w t) r m'
-  target_local h l d = record { right = λ g. rw (target_is (g.rel.rel full) marks at name public g.small v) (d.right (met-local full x e g h l)) }
+  pub target_local : {r : Result State Full} {m' : Mem} → x ≤ b.first → b.local ≡ true → FreshDone name at b.scope.0 true marks.in_loop public s (mem binds w t) r m' → DoneTarget name at b marks (Ok s) (mem binds w t) r m'
+  target_local h l d = record { right = λ g. rw (target_is g.rel.rel marks at name public g.small v) (d.right (met-local x e g h l)) }
 
-  pub target_module : {r : State} {m' : Mem} → x ≤ b.first → b.local ≡ false → FreshDone name at 0 false marks.in_loop public s (mem binds w t) r m' → DoneTarget name at b marks s (mem binds w t) r m'
-  target_module h l d = record { right = λ g. rw (target_is (g.rel.rel full) marks at name public g.small v) (d.right (met-module full x e g h l)) }
+  pub target_module : {r : Result State Full} {m' : Mem} → x ≤ b.first → b.local ≡ false → FreshDone name at 0 false marks.in_loop public s (mem binds w t) r m' → DoneTarget name at b marks (Ok s) (mem binds w t) r m'
+  target_module h l d = record { right = λ g. rw (target_is g.rel.rel marks at name public g.small v) (d.right (met-module x e g h l)) }

@@ -1,6 +1,7 @@
 -- The module's block from its beginning to its end: its entries, and then what `lexical` makes of all its targets.
 use Prim.Native.Nat.{ℕ, zero, suc, ◌+◌, ◌<◌, ◌≤◌}
-use Rattle.std.specs.Prelude.{◌≡◌, false, length, get_or, drop}
+use Rattle.std.specs.Prelude.{◌≡◌, false, length, get_or, drop, Result}
+use Rattle.std.proofs.lemmas.Result.{MatchResult-weaker}
 use Rattle.std.proofs.Math.Path.{refl, ap, ap₂}
 use Rattle.std.proofs.Common.{sym, ◌∙◌, true≢false}
 use mathlib.Core.List.{List, [], ◌∷◌, ◌++◌, map}
@@ -17,6 +18,7 @@ use Rattle.lexical.specs.Block.{name_of}
 use Rattle.lexical.specs.Records.{answers}
 use Rattle.lexical.specs.First.{next_slot, entry_slot, module_binding, module_bindings, start}
 use Rattle.store.specs.declared.ids.State.{State}
+use Rattle.store.specs.declared.ids.Full.{Full}
 use Rattle.store.specs.Sections.{Mem}
 use Rattle.store.specs.Image.{RowOf, name_row_lem, ident_row, HeldAt, held, none-held, NodesIn}
 use Rattle.store.specs.Meanings.{EnvIn, RangesIn}
@@ -105,9 +107,9 @@ nodes_early M M' named w n i b = go (n i b)
     go (held row q e x) = held row (old M M' row q) e x
     go (none-held f x) = none-held (λ row q. f row (old M' M row q)) x
 
-module _ (F : File) (mods : List ℕ) (D : ℕ → List Binding) (P : ℕ → ℕ) {env : List Binding} {ss : List ℕ} {s : State} {m : Mem} where
+module _ (F : File) (mods : List ℕ) (D : ℕ → List Binding) (P : ℕ → ℕ) {env : List Binding} {ss : List ℕ} {m : Mem} where
   -- after the entries
-  pub module_opens : ((i : ℕ) (e : Entry) → get_elem? F.entries i ≡ some e → e.slot < 32768) → EnvIn env ss [] s.level m.t → RangesIn D [] m.t
+  pub module_opens : {s : State} → ((i : ℕ) (e : Entry) → get_elem? F.entries i ≡ some e → e.slot < 32768) → EnvIn env ss [] s.level m.t → RangesIn D [] m.t
       → Rel (block_world (unsettled F mods D P) (module_block F) []) env ss (caps nothing) (block_st (module_block F) []) s m → InBlock (unsettled F mods D P) env ss (module_block F) [] s m
   unfolding module_block
   module_opens f a g q = record {
@@ -120,15 +122,15 @@ module _ (F : File) (mods : List ℕ) (D : ℕ → List Binding) (P : ℕ → �
   }
 
   -- after all its targets
-  pub module_closes : RB (unsettled F mods D P) env ss (module_block F) (collect F.names unmarked F.root) s m → R (settled F D P) env ss (start F) s m
+  pub module_closes : {s : Result State Full} → RB (unsettled F mods D P) env ss (module_block F) (collect F.names unmarked F.root) s m → R (settled F D P) env ss (start F) s m
   unfolding block_st block_world module_block module_vars nothing
-  module_closes r = rw (start_is F) (record { over = r.over; rel = λ f. go (r.rel f).rel })
+  module_closes {s} r = rw (start_is F) (record { over = r.over; rel = MatchResult-weaker s r.rel (λ v q. go v q.rel) (λ _ _. tt) })
     where
       st : St
       st = block_st (module_block F) (collect F.names unmarked F.root)
 
-      go : Rel (block_world (unsettled F mods D P) (module_block F) (collect F.names unmarked F.root)) env ss (caps nothing) st s m → Rel (record { F = F; M = st.made; mods = titles (module_vars F); D = D; P = P }) env ss (caps st) st s m
-      go q =
+      go : (v : State) → Rel (block_world (unsettled F mods D P) (module_block F) (collect F.names unmarked F.root)) env ss (caps nothing) st v m → Rel (record { F = F; M = st.made; mods = titles (module_vars F); D = D; P = P }) env ss (caps st) st v m
+      go v q =
           let i = q.image in
           record {
             image = record {

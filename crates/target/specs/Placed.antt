@@ -1,10 +1,10 @@
 -- The bindings of a block's variables: the k-th variable's number is k more than the block's first.
 use Prim.Native.Nat.{ℕ, zero, suc, ◌+◌}
-use Rattle.std.specs.Prelude.{◌≡◌, eqb, length, set}
+use Rattle.std.specs.Prelude.{◌≡◌, eqb, set}
 use Rattle.std.proofs.Math.Path.{refl}
 use Rattle.std.proofs.Common.{ap, zero-add}
 use Rattle.std.proofs.Math.Bool.{cond}
-use mathlib.Core.List.{List, [], ◌∷◌, ◌++◌}
+use mathlib.Core.List.{List, [], ◌∷◌}
 use Rattle.std.proofs.Math.Option.{Option, none, some}
 use native.Mathlib.Omega.{arith}
 use Rattle.std.proofs.Math.ListN.{get_elem?}

@@ -1,11 +1,12 @@
 -- One target of a block that is being collected: a name that the block has already, or a new one.
-use Rattle.std.specs.Prelude.{ℕ, ◌+◌, ◌<◌, ◌≡◌, Bool, false, List, [], ◌∷◌, ◌++◌}
+use Rattle.std.specs.Prelude.{ℕ, ◌+◌, ◌<◌, ◌≡◌, Bool, List, [], ◌∷◌, ◌++◌, Result, Ok}
 use Rattle.std.proofs.Math.Option.{none, some}
 use Rattle.lexical.specs.Lists.{place}
 use Rattle.lexical.specs.Binders as bind
 use Rattle.lexical.specs.Binders.{Target, target}
 use Rattle.lexical.specs.State.{Binding}
 use Rattle.store.specs.declared.ids.State.{State}
+use Rattle.store.specs.declared.ids.Full.{Full}
 use Rattle.store.specs.declared.ids.Block.{Block}
 use Rattle.store.specs.declared.ids.Marks.{Marks}
 use Rattle.store.specs.Sections.{Mem, mem, Long}
@@ -29,14 +30,13 @@ pub record Again (id at : ℕ) (local : Bool) (s : State) (binds w : List ℕ) :
   pub rel : InBlock W env ss E ts s (mem binds w t)
   pub local_is : local ≡ E.local
   pub node : at < 2048
-  pub not_full : s.full ≡ false
   pub name : ℕ
   pub k : ℕ
   pub known : place name (titles (vars_of E ts)) ≡ some k
   pub number : id ≡ E.first + k
 
 pub record AgainDone (id at : ℕ) (local public : Bool) (s : State) (binds w binds' w' : List ℕ) : Type 0 where
-  pub right : (g : Again id at local s binds w) (any : Bool) → RB g.W g.env g.ss g.E (g.ts ++ (a_target at g.name any public ∷ [])) s (mem binds' w' g.t)
+  pub right : (g : Again id at local s binds w) (any : Bool) → RB g.W g.env g.ss g.E (g.ts ++ (a_target at g.name any public ∷ [])) (Ok s) (mem binds' w' g.t)
 
 -- a name that it does not have
 pub record Fresh (name at scope : ℕ) (local : Bool) (s : State) (m : Mem) : Type 0 where
@@ -50,10 +50,9 @@ pub record Fresh (name at scope : ℕ) (local : Bool) (s : State) (m : Mem) : Ty
   pub scope_is : E.scope ≡ scope
   pub node : at < 2048
   pub small : name < 1024
-  pub not_full : s.full ≡ false
   pub unknown : place name (titles (vars_of E ts)) ≡ none
 
-pub record FreshDone (name at scope : ℕ) (local any public : Bool) (s : State) (m : Mem) (r : State) (m' : Mem) : Type 0 where
+pub record FreshDone (name at scope : ℕ) (local any public : Bool) (s : State) (m : Mem) (r : Result State Full) (m' : Mem) : Type 0 where
   pub right : (g : Fresh name at scope local s m) → RB g.W g.env g.ss g.E (g.ts ++ (a_target at name any public ∷ [])) r m'
 
 -- the block that code is told of
@@ -63,7 +62,7 @@ pub record BlockIs (E : BlockEnv) (b : Block) : Type 0 where
   pub local_is : b.local ≡ E.local
 
 -- any target
-pub record Meets (name at : ℕ) (b : Block) (s : State) (m : Mem) : Type 0 where
+pub record Meets (name at : ℕ) (b : Block) (s : Result State Full) (m : Mem) : Type 0 where
   pub W : World
   pub env : List Binding
   pub ss : List ℕ
@@ -74,9 +73,9 @@ pub record Meets (name at : ℕ) (b : Block) (s : State) (m : Mem) : Type 0 wher
   pub node : at < 2048
   pub small : name < 1024
 
-pub record PreTarget (name at : ℕ) (b : Block) (s : State) (m : Mem) : Type 0 where
+pub record PreTarget (name at : ℕ) (b : Block) (s : Result State Full) (m : Mem) : Type 0 where
   pub long : Long m
   pub ghost : Meets name at b s m
 
-pub record DoneTarget (name at : ℕ) (b : Block) (marks : Marks) (s : State) (m : Mem) (r : State) (m' : Mem) : Type 0 where
+pub record DoneTarget (name at : ℕ) (b : Block) (marks : Marks) (s : Result State Full) (m : Mem) (r : Result State Full) (m' : Mem) : Type 0 where
   pub right : (g : Meets name at b s m) → RB g.W g.env g.ss g.E (g.ts ++ (target g.W.F.names (marks_of marks) at name ∷ [])) r m'

@@ -1,5 +1,6 @@
 -- A block from its beginning to its end: with no target it is the state before it; with all its targets it is what `lexical` makes of them.
-use Rattle.std.specs.Prelude.{ℕ, suc, ◌+◌, ◌<◌, ◌≡◌, true, length}
+use Rattle.std.specs.Prelude.{ℕ, suc, ◌+◌, ◌<◌, ◌≡◌, true, length, Result}
+use Rattle.std.proofs.lemmas.Result.{MatchResult-weaker}
 use Rattle.std.proofs.Math.Path.{refl, sym, ap, ap₂}
 use Rattle.std.proofs.Common.{◌∙◌, true≢false, arith}
 use mathlib.Core.List.{List, [], ◌∷◌, ◌++◌, map, append_assoc, append-nil}
@@ -13,6 +14,7 @@ use Rattle.lexical.specs.State.{Binding, St}
 use Rattle.lexical.specs.Block.{fresh, slot_for, new, add, bind, naming, block}
 use Rattle.lexical.proofs.Theory.Slots.{fresh_at}
 use Rattle.store.specs.declared.ids.State.{State}
+use Rattle.store.specs.declared.ids.Full.{Full}
 use Rattle.store.specs.Sections.{Mem}
 use Rattle.store.specs.Meanings.{Range}
 use Rattle.store.specs.Rel.{World, Rel, R, caps}
@@ -101,13 +103,13 @@ facts_local W s st h = record {
   slot_small = λ l. absurd (true≢false l);
 }
 
-module _ {W : World} {env : List Binding} {ss : List ℕ} {s : State} {m : Mem} (k : ℕ) (st : St) where
+module _ {W : World} {env : List Binding} {ss : List ℕ} {s : Result State Full} {m : Mem} (k : ℕ) (st : St) where
   -- it begins
   pub opens : k < 256 → R W env ss st s m → RB W env ss (local_block k st) [] s m
-  opens h r = record { over = λ f. rw block_none (r.over f); rel = λ f. go (r.rel f) }
+  opens h r = record { over = MatchResult-weaker s r.over (λ _ _. tt) (λ _ o. rw block_none o); rel = MatchResult-weaker s r.rel go (λ _ _. tt) }
     where
-      go : Rel W env ss (caps st) st s m → InBlock W env ss (local_block k st) [] s m
-      go q = record {
+      go : (v : State) → Rel W env ss (caps st) st v m → InBlock W env ss (local_block k st) [] v m
+      go v q = record {
         facts = facts_local W k st h;
         around = unfold local_block in q.around;
         ranges = unfold local_block in q.ranges;
@@ -118,4 +120,4 @@ module _ {W : World} {env : List Binding} {ss : List ℕ} {s : State} {m : Mem} 
 
   -- it ends
   pub closes : (ts : List Target) → RB W env ss (local_block k st) ts s m → R W env ss (block k ts st).1 s m
-  closes ts r = rw (block-is k ts st) (record { over = r.over; rel = λ f. unfold local_block block_world block_st in (r.rel f).rel })
+  closes ts r = rw (block-is k ts st) (record { over = r.over; rel = MatchResult-weaker s r.rel (λ _ q. unfold local_block block_world block_st in q.rel) (λ _ _. tt) })

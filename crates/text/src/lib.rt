@@ -1,4 +1,5 @@
 // A window of a text: the text is put byte by byte, and as much of it is kept as the window shows. No text is ever held whole.
+// A name in the text is any bytes, and `Display` writes text alone: so all that is put is bytes, numbers too.
 #![tactic(auto)]
 
 ghost use Rattle.text.specs.Bytes.{decimal};
@@ -6,7 +7,7 @@ ghost use Rattle.text.specs.Window.{Begun, Puts, Finished};
 ghost use Rattle.std.specs.Prelude.{[], ◌∷◌};
 
 // How many bytes of the text come before the window still, and how many the window holds.
-#[derive(Clone, Copy)]
+#[derive(Clone, Copy, Debug, PartialEq, Eq)]
 pub struct Cursor {
     pub skip: usize,
     pub at: usize,
@@ -19,47 +20,38 @@ pub fn start(from: usize) -> Cursor
     Cursor { skip: from, at: 0 }
 }
 
+// The window is lent beside the cursor: a struct that held both would have the loan's ghost name in every contract, and be no plainer.
 pub fn put(out: &mut [u8], c: Cursor, byte: u8) -> Cursor
     ensures { Puts ((byte ∷ []) ∷ []) c out.old result out.new }
 {
-    let skip = c.skip;
-    let at = c.at;
+    let Cursor { skip, at } = c;
     if skip > 0 {
-        return Cursor {
-            skip: skip - 1,
-            at: at,
-        };
+        return Cursor { skip: skip - 1, at };
     }
     if at < out.len() {
         out[at] = byte;
-        return Cursor {
-            skip: 0,
-            at: at + 1,
-        };
+        return Cursor { skip, at: at + 1 };
     }
-    Cursor { skip: 0, at: at }
+    c
 }
 
 pub fn put_bytes(out: &mut [u8], c: Cursor, bytes: &[u8]) -> Cursor
     ensures { Puts (bytes.now ∷ []) c out.old result out.new }
 {
-    let skip = c.skip;
-    let at = c.at;
+    let Cursor { skip, at } = c;
     // all of them come before the window, or behind it
     if bytes.len() <= skip {
         return Cursor {
             skip: skip - bytes.len(),
-            at: at,
+            at,
         };
     }
     if out.len() <= at {
-        return Cursor { skip: 0, at: at };
+        return Cursor { skip: 0, at };
     }
     let mut k = c;
-    let mut i = 0;
-    while i < bytes.len() {
-        k = put(out, k, bytes[i]);
-        i += 1;
+    for byte in bytes {
+        k = put(out, k, *byte);
     }
     k
 }
@@ -79,10 +71,8 @@ pub fn put_decimal(out: &mut [u8], c: Cursor, n: u64) -> Cursor
 pub fn finish(out: &mut [u8], c: Cursor) -> usize
     ensures { Finished c out.old result out.new }
 {
-    let mut i = c.at;
-    while i < out.len() {
-        out[i] = 0;
-        i += 1;
+    if c.at < out.len() {
+        out[c.at..].fill(0);
     }
     c.at
 }

@@ -14,7 +14,7 @@ use word::{Asked, Word};
 
 // What a word makes of the file. One longer than any that is accepted has the answer of its first 65,536 bytes (`judged_front`, crate judge).
 fn run(rt: &impl Print, input: &mut impl io::Read, word: Word) -> io::Result<()> {
-    let mut space = [0u8; 65536];
+    let mut space = [0u8; stream::MOST_BYTES];
     let n = stream::fill(input, &mut space)?;
     let file = &space[..n];
     match word {

@@ -1,17 +1,10 @@
 // `readers`: for each binding and each global where its readers start in the list, how many they are, and their nodes.
 use std::io;
 
-// So many elements of a list from one on, or as many of them as there are.
+// So many elements of a list from one on, or as many of them as there are (`base::part` is of bytes, and this crate stands on no other reader of parts).
 fn part(list: &[u32], from: usize, count: usize) -> &[u32] {
-    let n = list.len();
-    if from > n {
-        return &list[..0];
-    }
-    if count > n - from {
-        return &list[from..];
-    }
-    let e = from + count;
-    &list[from..e]
+    let rest = &list[from.min(list.len())..];
+    &rest[..count.min(rest.len())]
 }
 
 fn say_nodes(rt: &impl Print, nodes: &[u32]) -> io::Result<()> {

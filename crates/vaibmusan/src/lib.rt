@@ -141,7 +141,7 @@ pub fn vaib_outer_scopes(file: &[u8], outer: &mut [u32])
     around::outer(file, outer);
 }
 
-// The scope and the slot where a chain of copies ends.
+// The scope and the slot where a chain of copies ends, in C's numbers (no `From`: the clause is of the whole way).
 fn home_of(copies: &[u32], around: &[u32], slot: usize) -> Home
     ensures { result ≡ home_of (followed copies.now around.now slot) }
 {

@@ -17,7 +17,7 @@ pub loop-w-preserved : goal.loop-w-preserved
 loop-w-preserved c =
     let l = c.loop-w in
     let a = c.args in
-    let n = c.least-n.result in
+    let n = c.min-n.result in
     let last = (a.at % 8 + l.w - 1) / 8 in
     let e : a.width - l.w + n ≡ a.width - (l.w - n) = omega arith in (
       omega arith,

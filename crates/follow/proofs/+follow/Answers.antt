@@ -4,19 +4,13 @@ use Rattle.follow.specs.Place.{place_of}
 use Rattle.follow.proofs.Copies.{follow-none, placed, onward}
 use Rattle.follow.proofs.+follow.Goals as goal
 
-pub returns-then-n-eq0 : goal.returns-then-n-eq0
-returns-then-n-eq0 t c =
-    let a = c.args in
-    ap place_of (follow-none a.copies.now a.around.now a.slot.0 c.if-n-eq0.true)
+pub returns-in_default : goal.returns-in_default
+returns-in_default t c = ap place_of (follow-none c.args.copies.now c.args.around.now c.args.slot.0 c.in_default.ensures.cases)
 
-pub returns-in-Own : goal.returns-in-Own
-returns-in-Own t c =
-    let a = c.args in
-    let k = c.copied_from-p in
-    placed a.copies.now a.around.now a.slot.0 c.wide-scope.result c.wide-scope.ensures c.if-n-eq0.false k.result k.ensures c.in-Own.is
+pub returns-in-None : goal.returns-in-None
+returns-in-None t c = placed c.args.copies.now c.args.around.now c.in-Some.outer.now c.in-Some.innermost.now c.args.slot.0 c.in-Some.ensures.cases.0 c.in-None.ensures
 
-pub returns-in-Parent : goal.returns-in-Parent
-returns-in-Parent t c =
-    let a = c.args in
-    let k = c.copied_from-p in
-    onward a.copies.now a.around.now a.slot.0 c.wide-scope.result c.wide-scope.ensures c.if-n-eq0.false k.result k.ensures c.in-Parent.k c.in-Parent.is c.follow.result c.follow.ensures
+pub returns-in-Some-copied_from : goal.returns-in-Some-copied_from
+returns-in-Some-copied_from t c =
+    let p = c.in-Some-copied_from in
+    onward c.args.copies.now c.args.around.now c.in-Some.outer.now c.in-Some.innermost.now c.args.slot.0 c.in-Some.ensures.cases.0 p.parent p.ensures c.follow.result c.follow.ensures

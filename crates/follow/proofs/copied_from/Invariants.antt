@@ -1,13 +1,9 @@
--- `follow::copied_from` meets its contract. The loop: what the records from c on give is what all of them give. Assumes nothing.
-use Prim.Native.Nat.{◌-◌, ◌≤◌}
+-- `follow::copied_from` meets its contract. The loop: what the records from the index on give is what all of them give. Assumes nothing.
 use mathlib.Core.Path.{◌≡◌}
-use lib.ListN.{length, drop}
+use lib.ListN.{drop}
 use Rattle.lexical.specs.Follow.{from_in}
 use Rattle.follow.specs.Place.{copies_of}
 use Rattle.follow.proofs.copied_from.Given as goal
 
-abbrev pub invariant-loop-c : goal.invariant-loop-c
-invariant-loop-c l = (l.c ≤ length l.copies) × (from_in l.scope l.slot (copies_of (drop l.c l.copies)) ≡ from_in l.scope l.slot (copies_of l.copies))
-
-abbrev pub decreases-loop-c : goal.decreases-loop-c
-decreases-loop-c l = length l.copies - l.c
+abbrev pub invariant-loop-r : goal.invariant-loop-r
+invariant-loop-r l = from_in l.scope l.slot (copies_of (drop l.r-index l.copies)) ≡ from_in l.scope l.slot (copies_of l.copies)

@@ -1,5 +1,5 @@
 -- The functions of walk three that call one another: each goes down a part that gets shorter; those that hand theirs on as it is stand above the ones that take it.
-use Rattle.std.proofs.Common.{◌+◌, ◌-◌, length}
+use Rattle.std.proofs.Common.{◌+◌, length}
 use Rattle.store.specs.Sections.{mem}
 use Rattle.idents.proofs.Steps.{Mid}
 use Rattle.idents.proofs.+resolve.Given as goal
@@ -34,8 +34,8 @@ decreases-idents_in_def l = length l.part.now
 abbrev pub decreases-idents_in_compr : goal.decreases-idents_in_compr
 decreases-idents_in_compr l = length l.part.now
 
-abbrev pub invariant-each-loop-i : goal.invariant-each-loop-i
-invariant-each-loop-i l = Mid l.part l.at l.ty l.initial.s (mem l.initial.binds l.initial.w l.initial.t) l.s l.n l.i (mem l.binds l.w l.t)
+abbrev pub invariant-each-loop-rest : goal.invariant-each-loop-rest
+invariant-each-loop-rest l = Mid l.part l.at l.ty l.initial.s (mem l.initial.binds l.initial.w l.initial.t) l.s l.n l.rest (mem l.binds l.w l.t)
 
-abbrev pub decreases-each-loop-i : goal.decreases-each-loop-i
-decreases-each-loop-i l = length l.part - l.i
+abbrev pub decreases-each-loop-rest : goal.decreases-each-loop-rest
+decreases-each-loop-rest l = length l.rest

@@ -1,19 +1,18 @@
 -- `idents::last` meets its contract: the nodes passed and those left are the part's (`Trail`).
-use Rattle.std.proofs.Common.{ℕ, ◌*◌, ap, ◌∙◌, arith}
-use Rattle.nodefile.proofs.Laws.Parts.{size_from}
-use Rattle.idents.proofs.Trail.{trail_start, trail_inside, trail_more, trail_end}
+use Rattle.std.proofs.Common.{arith}
+use Rattle.idents.proofs.Trail.{trail_start, trail_inside, trail_length, trail_more, trail_end}
 use Rattle.idents.proofs.last.Goals as goal
 
-pub loop-e-init : goal.loop-e-init
-loop-e-init c = trail_start c.args.part.now _ c.requires.1 (ap (λ (n : ℕ). 8 * n) c.size.ensures.is)
+pub loop-end-init : goal.loop-end-init
+loop-end-init c = trail_start c.requires.1 c.size.ensures.is
 
-pub loop-e-smaller : goal.loop-e-smaller
-loop-e-smaller c =
-    let f = trail_inside (trail_more c.loop-e.invariant c.loop-e-test.true c.size-in-loop-e.result (c.size-in-loop-e.ensures.is ∙ size_from c.args.part.now c.loop-e.e) c.requires.1) c.requires.1 in
-    omega arith
+pub loop-end-smaller : goal.loop-end-smaller
+loop-end-smaller c =
+    let d = c.loop-end.invariant in
+    omega (arith, trail_inside d c.requires.1, trail_length d c.loop-end-test.true)
 
-pub loop-e-preserved : goal.loop-e-preserved
-loop-e-preserved c = trail_more c.loop-e.invariant c.loop-e-test.true c.size-in-loop-e.result (c.size-in-loop-e.ensures.is ∙ size_from c.args.part.now c.loop-e.e) c.requires.1
+pub loop-end-preserved : goal.loop-end-preserved
+loop-end-preserved c = trail_more c.loop-end.invariant c.loop-end-test.true c.size-in-loop-end.ensures.is
 
 pub returns : goal.returns
-returns c = trail_end c.loop-e.invariant c.loop-e-test.false
+returns c = trail_end c.loop-end.invariant c.loop-end-test.false

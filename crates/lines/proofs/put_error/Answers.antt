@@ -8,4 +8,4 @@ use Rattle.lines.proofs.put_error.Goals as goal
 pub returns : goal.returns
 unfolding error_line
 returns c =
-    puts_text (puts_then c.put_number-k.ensures (puts_then c.put_number-k-2.ensures (puts_then c.put_bytes-k.ensures (puts_then c.put_name-k.ensures c.put_bytes.ensures)))) (rw (c.value.ensures.is, c.node-at.ensures.is, c.code.ensures.is) refl)
+    puts_text (puts_then c.put_number-k.ensures (puts_then c.put_number-k-2.ensures (puts_then c.put_bytes-k.ensures (puts_then c.put_name-k.ensures c.put_bytes.ensures)))) (rw (c.value.ensures.is, c.high-at.ensures.is, c.low.ensures.is) refl)

@@ -1,20 +1,22 @@
 -- `lines::put_ident` meets its contract: by the kind and the class.
 -- Assumes nothing.
-use mathlib.Core.Path.{sym, ◌∙◌}
-use borrow.Author.Tests.{eq-eqb, ne_eqb}
+use mathlib.Core.Path.{sym, ap, ◌∙◌}
+use Rattle.answer.specs.Classes.{class_number}
 use Rattle.text.specs.Laws.{puts_none, puts_then, puts_line}
 use Rattle.lines.specs.Lines.{ident_line}
+use Rattle.lines.proofs.Idents.{other_kind, ident_kind, filled}
 use Rattle.lines.proofs.put_ident.Goals as goal
 
-pub returns-then-kind-ne-IDENT : goal.returns-then-kind-ne-IDENT
+pub returns-then-ne : goal.returns-then-ne
 unfolding ident_line
-returns-then-kind-ne-IDENT c = rw (ne_eqb _ _ (λ e. c.if-kind-ne-IDENT.true (c.kind.ensures.is ∙ e))) (puts_line (puts_none _ _))
+returns-then-ne c = rw (other_kind _ _ c.named_kind.ensures c.if-ne.ensures) (puts_line (puts_none _ _))
 
-pub returns-then-class-eq-NOTHING : goal.returns-then-class-eq-NOTHING
+pub returns-in-Nothing : goal.returns-in-Nothing
 unfolding ident_line
-returns-then-class-eq-NOTHING c = rw (eq-eqb _ _ (sym c.kind.ensures.is ∙ c.if-kind-ne-IDENT.false), eq-eqb _ _ (sym c.class.ensures.is ∙ c.if-class-eq-NOTHING.true)) (puts_line (puts_none _ _))
+returns-in-Nothing c =
+    rw (ident_kind _ _ c.named_kind.ensures c.if-ne.ensures, sym c.class.ensures.is ∙ ap class_number c.in-Nothing.is) (puts_line (puts_none _ _))
 
-pub returns : goal.returns
+pub returns-in_default : goal.returns-in_default
 unfolding ident_line
-returns c =
-    rw (eq-eqb _ _ (sym c.kind.ensures.is ∙ c.if-kind-ne-IDENT.false), ne_eqb _ _ (λ e. c.if-class-eq-NOTHING.false (c.class.ensures.is ∙ e))) (puts_line (puts_then c.put_number-k.ensures c.put_resolution.ensures))
+returns-in_default c =
+    rw (ident_kind _ _ c.named_kind.ensures c.if-ne.ensures, sym c.class.ensures.is, filled _ c.in_default.not-Nothing) (puts_line (puts_then c.put_number-k.ensures c.put_resolution.ensures))

@@ -1,11 +1,12 @@
--- `lines::put_names` meets its contract: the names of the slots below `i` that are the scope's.
+-- `lines::put_names` meets its contract: the names of the slots below the index that are the scope's.
 -- Assumes nothing.
 use native.Mathlib.Omega.{arith}
+use lib.ListN.{length}
 use Rattle.text.specs.Laws.{rows_more, rows_end}
 use Rattle.lines.proofs.put_names.Goals as goal
 
-pub loop-i-preserved : goal.loop-i-preserved
-loop-i-preserved c = (omega arith, rows_more c.loop-i.invariant.1 c.put_slot-k.ensures)
+pub loop-r-preserved : goal.loop-r-preserved
+loop-r-preserved c = rows_more c.loop-r.invariant c.put_slot-k.ensures
 
 pub returns : goal.returns
-returns c = rows_end c.loop-i.invariant.1 c.loop-i.invariant.0 c.loop-i-test.false
+returns c = rows_end {n = length c.args.slots.now} c.loop-r.invariant (omega (arith, c.loop-r.auto.r-index-end)) (omega (arith, c.loop-r.auto.r-index-end))

@@ -8,4 +8,4 @@ use Rattle.lines.proofs.put_scope.Goals as goal
 pub returns : goal.returns
 unfolding scope_line
 returns c =
-    puts_text (puts_then c.put_number-k.ensures (puts_then c.put_number-k-2.ensures (puts_then c.put_bytes-k.ensures (puts_then c.put_names-k.ensures c.put_bytes.ensures)))) (rw c.params.ensures.is refl)
+    puts_text (puts_then c.put_number-k.ensures (puts_then c.put_number-k-2.ensures (puts_then c.put_bytes-k.ensures (puts_then c.put_names-k.ensures c.put_bytes.ensures)))) (rw c.high.ensures.is refl)

@@ -15,7 +15,7 @@ use Rattle.note.proofs.note_entries.Goals as goal
 pub loop-k-init : goal.loop-k-init
 unfolding up_to
 loop-k-init c =
-    (omega arith, refl, λ root. entered-none (file_of c.args.file.now root) _ _ c.requires.3 c.requires.4)
+    (refl, λ root. entered-none (file_of c.args.file.now root) _ _ c.requires.2 c.requires.3)
 
 pub loop-k-preserved : goal.loop-k-preserved
 loop-k-preserved c =
@@ -32,12 +32,11 @@ loop-k-preserved c =
       slot_low = c.entry_slot-slot.ensures.below;
     }
     in
-    let long : 2304 ≤ length l.binds = omega (arith, c.requires.0, l.invariant.1) in (
-      omega arith,
-      rw stored (simp length-set l.invariant.1),
-      λ root. rw (stored, c.put_known.ensures) (entries_more bs root l.k (l.invariant.2 root) _ _ _ c.requires.2 inside read long c.requires.1),
+    let long : 2304 ≤ length l.binds = omega (arith, c.requires.0, l.invariant.0) in (
+      rw stored (simp length-set l.invariant.0),
+      λ root. rw (stored, c.put_known.ensures) (entries_more bs root l.k (l.invariant.1 root) _ _ _ c.requires.1 inside read long c.told-t),
     )
 
 pub returns : goal.returns
 returns c =
-    (c.entry_count-n.ensures.is, λ root. entries_all c.args.file.now root c.loop-k.k (c.loop-k.invariant.2 root) (omega (arith, c.entry_count-n.ensures.is)))
+    (c.entry_count-n.ensures.is, λ root. entries_all c.args.file.now root c.loop-k.k (c.loop-k.invariant.1 root) (omega (arith, c.entry_count-n.ensures.is)))

@@ -1,5 +1,4 @@
 -- `note_entries` meets its contract: the first k entries are noted.
-use Prim.Native.Nat.{◌-◌, ◌≤◌}
 use mathlib.Core.Path.{◌≡◌}
 use lib.ListN.{length}
 use Rattle.lexical.specs.Tree.{Forest}
@@ -10,7 +9,4 @@ use Rattle.note.proofs.Entries.{first_vars}
 use Rattle.note.proofs.note_entries.Given as goal
 
 abbrev pub invariant-loop-k : goal.invariant-loop-k
-invariant-loop-k l = (l.k ≤ l.n) × (length l.binds ≡ length l.initial.binds) × ((root : Forest) → Entered (module_block (file_of l.file root)) (first_vars l.file l.k) l.initial.t l.binds l.t)
-
-abbrev pub decreases-loop-k : goal.decreases-loop-k
-decreases-loop-k l = l.n - l.k
+invariant-loop-k l = (length l.binds ≡ length l.initial.binds) × ((root : Forest) → Entered (module_block (file_of l.file root)) (first_vars l.file l.k) l.initial.t l.binds l.t)

@@ -21,16 +21,12 @@ hidden-past bs i h = let e : name_len (names_of bs) i ≡ 0 = field_past (names_
     short = rw length-take (min-le_left _ _)
 
 pub loop-k-preserved : goal.loop-k-preserved
+unfolding bit
 loop-k-preserved c =
-    let nm = c.names-nm in
-    let pool = c.pool-pool in (
-      omega arith,
-      filled_push c.loop-k.invariant.1 _ (omega (arith, c.requires.0, c.requires.1.names, c.name_count-n.ensures.is))
-          (c.flag.ensures ∙ ap bit (c.hidden.ensures ∙ ap₂ (λ (a b : List ℕ). hidden a b c.loop-k.k) nm.ensures pool.ensures)),
-    )
+    filled_push c.loop-k.invariant _ (omega (arith, c.requires.0.names, c.name_count-n.ensures.is))
+    (c.from.ensures ∙ ap bit (c.hidden.ensures ∙ ap₂ (λ (a b : List ℕ). hidden a b c.loop-k.k) c.names-nm.ensures c.pool-pool.ensures))
 
 pub returns : goal.returns
 returns c =
     let n = c.name_count-n.ensures.is in
-    let e : c.loop-k.k ≡ name_count c.args.file.now = omega arith in
-    filled_wide c.loop-k.invariant.1 1024 (omega (arith, c.requires.1.names)) (λ i h b. c.requires.2 i b ∙ sym (hidden-past _ i (omega arith)))
+    filled_wide c.loop-k.invariant 1024 (omega (arith, c.requires.0.names)) (λ i h b. c.requires.1 i b ∙ sym (hidden-past _ i (omega arith)))

@@ -1,6 +1,11 @@
--- Where each scope number stands: cell v holds one more than the number of the node that has v, or 0.
-use Rattle.std.specs.Prelude.{ℕ, ◌+◌, ◌*◌, ◌<◌, ◌≡◌, true, List, length, get_or}
+-- Where each scope number stands: cell v holds the node that has v. As numbers the cells hold one more than its number, or 0 for none.
+use Rattle.std.specs.Prelude.{ℕ, ◌+◌, ◌*◌, ◌<◌, ◌≡◌, true, List, length, get_or, Option, None, Some}
 use Rattle.scoping.specs.Scopes.{is_scope, number}
+
+-- a cell as a number
+abbrev pub cell_of : Option ℕ → ℕ
+cell_of None = 0
+cell_of (Some n) = n + 1
 
 -- 256 cells that hold 0
 pub record Unset (found : List ℕ) : Type 0 where

@@ -6,17 +6,15 @@ use Rattle.target.proofs.Renewed.{again_few, again-done}
 use Rattle.target.proofs.bind_again.Goals as goal
 
 pub bind_again-requires : goal.bind_again-requires
-bind_again-requires c = omega (arith, again_few c.requires.2)
+bind_again-requires c = omega (arith, again_few c.requires.1)
 
 pub slot_of-requires : goal.slot_of-requires
-slot_of-requires c = omega (arith, again_few c.requires.2, simp length-set at (ap length c.bind_again.ensures))
+slot_of-requires c = omega (arith, again_few c.requires.1, simp length-set at (ap length c.bind_again.ensures))
 
 pub put_answer-requires : goal.put_answer-requires
-put_answer-requires c = let g = c.requires.2 in omega (arith, again_few g, g.node)
+put_answer-requires c = let g = c.requires.1 in omega (arith, again_few g, g.node)
 
 pub returns : goal.returns
 returns c =
-    let p = c.requires in
-    let k = c.class in
     let n = c.slot_of in
-    (refl, again-done k.result n.result p.0 p.1 c.bind_again.ensures k.ensures.0 n.ensures.0 c.put_answer.ensures)
+    (refl, again-done _ n.result c.requires.0 c.told-w c.bind_again.ensures c.class.ensures n.ensures.0 c.put_answer.ensures)

@@ -1,14 +1,17 @@
 -- `around::descent::descend` meets its contract: what is left to enter (`Going`).
--- Assumes nothing.
-use mathlib.Core.Path.{ap, ◌∙◌}
-use native.Mathlib.Omega.{arith}
-use Rattle.nodefile.specs.Node.{value_of}
-use Rattle.around.proofs.Read.{ended, scoped}
+use Rattle.std.specs.Prelude.{◌≡◌, None, refl, cond, eqb, length, replicate}
+use Rattle.std.proofs.Common.{ap, ◌∙◌, arith, rules, eq-eqb, ne_eqb}
+use Rattle.around.specs.Own.{own_scope}
+use Rattle.around.proofs.Read.{ended}
+use Rattle.around.proofs.Fitted.{holds_as}
 use Rattle.around.proofs.Going.{going_start, going_held, going_past, going_next, going_in, going_end}
 use Rattle.around.proofs.descent.descend.Goals as goal
+use Rattle.around.proofs.descent.descend.Goals.{then-q-e, else-q-e}
 
 pub loop-p-init : goal.loop-p-init
-loop-p-init c = going_start c.args.ns.now c.args.x c.args.out.now c.requires.0 c.requires.2
+loop-p-init c =
+    let z : c.fill.new.self ≡ replicate (length c.args.out.now) 0 = search rules in
+    going_start c.args.ns.now c.args.x c.fill.new.self (length c.args.out.now) c.requires.0 z
 
 pub loop-p-smaller-then-q-x : goal.loop-p-smaller-then-q-x
 loop-p-smaller-then-q-x c =
@@ -22,12 +25,10 @@ loop-p-preserved-then-q-x c =
 pub loop-p-preserved : goal.loop-p-preserved
 loop-p-preserved c =
     let g = c.loop-p.invariant in
-    let ns = c.args.ns.now in
-    let p = c.loop-p.p in
-    going_in g (omega (arith, c.loop-p-test.true)) c.end_in-q.result (ended ns p c.loop-p.e c.node-t.ensures c.size.ensures c.end_in-q.ensures) c.if-q-x.false
-    c.is_scope-own.result (scoped ns p c.node-t.ensures c.kind.ensures c.is_scope-own.ensures)
-    c.value-scope.result (c.value-scope.ensures.is ∙ ap value_of c.node-t.ensures)
+    let entered' : c.if-q-e.push ≡ cond (eqb c.end_in-q.result c.loop-p.e) c.loop-p.inner None = elim c.if-q-e.branch [ then-q-e w ↦ rw (w.push-is, eq-eqb c.end_in-q.result c.loop-p.e w.if-q-e.true) refl | else-q-e w ↦ rw (w.push-is, ne_eqb c.end_in-q.result c.loop-p.e w.if-q-e.false) refl ] in
+    going_in g (omega (arith, c.loop-p-test.true)) c.end_in-q.result (ended c.args.ns.now c.loop-p.p c.loop-p.e c.node-t.ensures c.size.ensures c.end_in-q.ensures) c.if-q-x.false
+    c.if-q-e.push entered' c.own_scope-inner.result (c.own_scope-inner.ensures ∙ ap own_scope c.node-t.ensures)
     c.push-n.result c.push-n.new.out (c.push-n.ensures g.found (going_held g))
 
 pub returns : goal.returns
-returns c = going_end c.loop-p.invariant (omega (arith, c.loop-p-test.false))
+returns c = holds_as (going_end c.loop-p.invariant (omega (arith, c.loop-p-test.false))) refl c.fill.ensures.len

@@ -1,13 +1,6 @@
--- `around::descent::push` meets its contract. Assumes nothing.
-use Rattle.lexical.specs.Tree.{when}
-use Rattle.around.proofs.Fitted.{holds_more, holds_same}
+-- `around::descent::push` meets its contract.
+use Rattle.around.proofs.Fitted.{holds_more}
 use Rattle.around.proofs.descent.push.Goals as goal
 
-pub returns-then-own : goal.returns-then-own
-unfolding when
-returns-then-own c xs h =
-    rw (c.if-last.true, c.if-own.true) (holds_more h c.args.scope c.put.new.out c.put.ensures)
-
-pub returns-then-last : goal.returns-then-last
-unfolding when
-returns-then-last c xs h = rw (c.if-last.true, c.if-own.false) (holds_same h)
+pub returns : goal.returns
+returns c xs h = rw c.in-Some.is (holds_more h c.in-Some.scope c.put.new.out c.put.ensures)

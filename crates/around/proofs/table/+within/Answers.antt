@@ -1,10 +1,13 @@
--- `around::table::within` meets its contract: what is left to note (`Walking`). Assumes nothing.
-use mathlib.Core.Path.{◌∙◌, ap}
-use native.Mathlib.Omega.{arith}
-use Rattle.nodefile.specs.Node.{value_of}
-use Rattle.around.proofs.Read.{ended, scoped}
-use Rattle.around.proofs.Walking.{Passed, walking_end, walking_more, ends_past, flat}
+-- `around::table::within` meets its contract: what is left to note (`Walking`).
+use Rattle.std.specs.Prelude.{ℕ, ◌≡◌, Option, cond, eqb}
+use Rattle.std.proofs.Common.{ap, ◌∙◌, arith, refl, sym, eq-eqb, ne_eqb}
+use Rattle.std.specs.Option.{unwrap_or}
+use Rattle.around.specs.Own.{own_scope}
+use Rattle.around.specs.Outer.{stored}
+use Rattle.around.proofs.Read.{ended}
+use Rattle.around.proofs.Walking.{Passed, noted_of, walking_end, walking_more, ends_past, flat}
 use Rattle.around.proofs.table.+within.Goals as goal
+use Rattle.around.proofs.table.+within.Goals.{then-q-to, else-q-to, in-Some, in_default}
 
 pub returns-then-levels-eq0 : goal.returns-then-levels-eq0
 returns-then-levels-eq0 t c =
@@ -24,22 +27,24 @@ loop-p-smaller t c =
     omega (arith, z, c.loop-p-test.true)
 
 pub loop-p-preserved : goal.loop-p-preserved
+unfolding stored
 loop-p-preserved t c =
     let a = c.args in
     let l = c.loop-p in
+    let here' : c.if-q-to.here ≡ cond (eqb c.end_in-q.result a.to) a.inner a.scope = elim c.if-q-to.branch [ then-q-to w ↦ rw (w.here-is, eq-eqb c.end_in-q.result a.to w.if-q-to.true) refl | else-q-to w ↦ rw (w.here-is, ne_eqb c.end_in-q.result a.to w.if-q-to.false) refl ] in
+    let noted' : c.match-own.out ≡ stored (noted_of c.own_scope-own.result c.if-q-to.here) l.out = elim c.match-own.branch [ in-Some w ↦ rw w.in-Some.is (w.out-is ∙ w.put.ensures) | in_default w ↦ rw w.in_default.is w.out-is ] in
+    let own' : c.match-own.own ≡ c.own_scope-own.result = elim c.match-own.branch [ in-Some w ↦ w.own-is ∙ sym w.in-Some.is | in_default w ↦ w.own-is ] in
     let s : Passed a.ns.now a.to a.scope a.inner a.levels l.p l.out c.end_in-q.result c.within.new.out =
     record {
-      here = c.choose-here.result;
-      own = c.is_scope-own.result;
-      value = c.value-number.result;
-      last = c.choose-last.result;
-      mid = c.note.new.out;
+      here = c.if-q-to.here;
+      own = c.own_scope-own.result;
+      last = c.unwrap_or.result;
+      mid = c.match-own.out;
       ends = ended a.ns.now l.p a.to c.node-t.ensures c.size.ensures c.end_in-q.ensures;
-      here_is = c.choose-here.ensures;
-      own_is = scoped a.ns.now l.p c.node-t.ensures c.kind.ensures c.is_scope-own.ensures;
-      value_is = c.value-number.ensures.is ∙ ap value_of c.node-t.ensures;
-      noted = c.note.ensures;
-      last_is = c.choose-last.ensures;
+      here_is = here';
+      own_is = c.own_scope-own.ensures ∙ ap own_scope c.node-t.ensures;
+      noted = noted';
+      last_is = c.unwrap_or.ensures ∙ ap (λ (o : Option ℕ). unwrap_or o c.if-q-to.here) own';
       below = c.within.ensures;
     }
     in

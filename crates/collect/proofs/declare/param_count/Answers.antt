@@ -1,30 +1,33 @@
--- `collect::declare::param_count` meets its contract: the nodes before byte i have n parameter variables.
-use Rattle.std.proofs.Common.{ℕ, List, sym, ◌∙◌, subst, arith}
-use Rattle.base.specs.Parts.{part-from}
-use Rattle.nodefile.specs.Reads.{Reads}
-use Rattle.nodefile.proofs.Laws.Parts.{size_from}
-use Rattle.collect.proofs.Counting.{c_node, c_more, c_end}
+-- `collect::declare::param_count` meets its contract: the nodes before those in `rest` have n parameter variables.
+use Rattle.std.proofs.Common.{arith, add-zero}
+use Rattle.lexical.specs.Records.{bit}
+use Rattle.collect.proofs.Rests.{some_left, none_left}
+use Rattle.collect.proofs.Counting.{c_sizes, c_more, c_end}
 use Rattle.collect.proofs.declare.param_count.Goals as goal
+use Rattle.collect.proofs.declare.param_count.Goals.{then-is_named_param, else-is_named_param}
 
-pub loop-i-smaller : goal.loop-i-smaller
-loop-i-smaller c =
-    let f = c_node c.loop-i.invariant c.loop-i-test.true c.requires.1.0 c.requires.1.1 c.requires.1.2 in
-    let e = c.size.ensures.is ∙ size_from c.args.part.now c.loop-i.i in
-    omega arith
+pub slice_bounds-rest-count : goal.slice_bounds-rest-count
+slice_bounds-rest-count c =
+    let z = c_sizes c.loop-rest.invariant (some_left _ c.is_empty.ensures c.loop-rest-test.true) c.size.result c.size.ensures.is c.requires.1 in
+    omega (arith, z)
 
-pub loop-i-preserved : goal.loop-i-preserved
-loop-i-preserved c =
-    let i = c.loop-i.i in
-    let x = c.named_param-n in
-    c_more
-    c.loop-i.invariant
-    c.loop-i-test.true
-    x.result
-    c.size.result
-    (c.size.ensures.is ∙ size_from c.args.part.now i)
-    x.ensures.0
-    (λ at f r. x.ensures.1 at f (subst (λ (l : List ℕ). Reads l at f) (sym (part-from c.args.part.now i)) r))
-    c.requires.1
+pub slice_bounds-rest-start : goal.slice_bounds-rest-start
+slice_bounds-rest-start c =
+    let z = c_sizes c.loop-rest.invariant (some_left _ c.is_empty.ensures c.loop-rest-test.true) c.size.result c.size.ensures.is c.requires.1 in
+    omega (arith, z)
+
+pub loop-rest-smaller : goal.loop-rest-smaller
+loop-rest-smaller c =
+    let z = c_sizes c.loop-rest.invariant (some_left _ c.is_empty.ensures c.loop-rest-test.true) c.size.result c.size.ensures.is c.requires.1 in
+    omega (arith, z)
+
+pub loop-rest-preserved : goal.loop-rest-preserved
+loop-rest-preserved c =
+    let more = c_more c.loop-rest.invariant (some_left _ c.is_empty.ensures c.loop-rest-test.true) c.size.result c.size.ensures.is c.is_named_param.ensures c.requires.1 in
+    elim c.if-is_named_param.branch [
+      | then-is_named_param w ↦ rw w.n-is (unfold bit in (rw w.if-is_named_param.true at more))
+      | else-is_named_param w ↦ rw w.n-is (unfold bit in (rw (w.if-is_named_param.false, add-zero) at more))
+    ]
 
 pub returns : goal.returns
-returns c = (omega (arith, c.loop-i.invariant.few, c.loop-i.invariant.le), λ at f r. c_end c.loop-i.invariant c.loop-i-test.false at f r)
+returns c = (omega (arith, c.loop-rest.invariant.few), c_end c.loop-rest.invariant (none_left _ c.is_empty.ensures c.loop-rest-test.false))

@@ -1,11 +1,7 @@
--- `listing::lists::put_copies` meets its contract: a line for each copy below `i`.
+-- `listing::lists::put_copies` meets its contract: a line for each copy.
 -- Assumes nothing.
-use native.Mathlib.Omega.{arith}
-use Rattle.text.specs.Laws.{rows_more, rows_end}
+use Rattle.std.proofs.Common.{rules}
 use Rattle.listing.proofs.lists.put_copies.Goals as goal
 
-pub loop-i-preserved : goal.loop-i-preserved
-loop-i-preserved c = (omega arith, rows_more c.loop-i.invariant.1 c.put_copy-k.ensures)
-
 pub returns : goal.returns
-returns c = rows_end c.loop-i.invariant.1 c.loop-i.invariant.0 c.loop-i-test.false
+returns c = c.put_each.ensures _ (λ w k i r v h p. search rules)

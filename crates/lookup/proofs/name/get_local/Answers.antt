@@ -1,13 +1,19 @@
 -- `get_local` meets its contract: captured, then brought to the current scope.
 use Rattle.std.proofs.Common.{refl}
-use Rattle.lookup.proofs.Locals.{to-bring, local_refused, local_found}
+use Rattle.store.proofs.Laws.Full.{stopped}
+use Rattle.lookup.proofs.Locals.{to-bring, local_full, local_refused, local_found}
 use Rattle.lookup.proofs.name.get_local.Goals as goal
+use Rattle.lookup.proofs.name.get_local.Goals.{then-ty, else-ty}
 
-pub bring-r-requires : goal.bring-r-requires
-bring-r-requires c = (record { binds = rw c.capture_local.auto.binds c.requires.0.binds; w = c.requires.0.w; t = c.requires.0.t }, to-bring _ c.capture_local.ensures c.requires.1)
+pub bring-requires : goal.bring-requires
+bring-requires c = (record { binds = rw c.capture_local.auto.binds c.requires.0.binds }, to-bring c.capture_local.ensures c.requires.1)
 
-pub returns-then-ty : goal.returns-then-ty
-returns-then-ty c = local_refused _ c.capture_local.ensures c.args.ty c.bring-r.result _ c.bring-r.ensures c.if-ty.true
+pub returns-in_err-brought : goal.returns-in_err-brought
+returns-in_err-brought c = rw (stopped c.in_err-brought.field-0.0 c.from_residual.ensures.0) (local_full c.capture_local.ensures c.in_err-brought.ensures)
 
 pub returns : goal.returns
-returns c = local_found _ c.capture_local.ensures c.args.ty c.bring-r.result _ c.bring-r.ensures c.if-ty.false c.args.id refl
+returns c =
+    elim c.if-ty.branch [
+      | then-ty w ↦ rw w.res-is (local_refused c.capture_local.ensures c.in_ok-brought.ensures w.if-ty.true)
+      | else-ty w ↦ rw w.res-is (local_found c.capture_local.ensures c.in_ok-brought.ensures w.if-ty.false c.args.id refl)
+    ]

@@ -8,10 +8,10 @@ pub slot_of-slot-requires : goal.slot_of-slot-requires
 slot_of-slot-requires c = omega (arith, module_few c.requires.1, c.requires.0)
 
 pub returns-then-st-eq0 : goal.returns-then-st-eq0
-returns-then-st-eq0 c = module_outside c.slot_of-slot.result c.slot_of-slot.ensures.0 c.args.id refl c.if-st-eq0.true
+returns-then-st-eq0 c = module_outside c.slot_of-slot.ensures.0 c.args.id refl c.if-st-eq0.true
 
 pub set_captured-requires : goal.set_captured-requires
 set_captured-requires c = omega (arith, module_few c.requires.1, c.requires.0)
 
 pub returns : goal.returns
-returns c = module_inside c.slot_of-slot.result c.slot_of-slot.ensures.0 c.args.id refl c.if-st-eq0.false c.requires.0 _ c.set_captured.ensures
+returns c = module_inside c.slot_of-slot.ensures.0 c.args.id refl c.if-st-eq0.false c.requires.0 c.set_captured.ensures

@@ -1,14 +1,10 @@
 -- The walk along a chain.
-use Prim.Native.Nat.{◌-◌, ◌≤◌}
-use mathlib.Core.Path.{sym, ◌∙◌}
-use mathlib.Core.Bool.{false≢true}
-use native.Mathlib.Omega.{arith}
-use Rattle.names.specs.Inside.Chain.{Met}
-use Rattle.names.proofs.Chains.{met_none, met_here, met_there, met_next}
+use Rattle.names.specs.Inside.Chain.{Below, Met}
+use Rattle.names.proofs.Chains.{ahead}
 use Rattle.names.proofs.names.met.Given as goal
 
-abbrev pub invariant-loop-k : goal.invariant-loop-k
-invariant-loop-k l = (l.k ≤ l.from) × (Met l.nm l.pool l.links l.k l.s → Met l.nm l.pool l.links l.from l.s) × (Met l.nm l.pool l.links l.from l.s → Met l.nm l.pool l.links l.k l.s)
+abbrev pub invariant-loop-next : goal.invariant-loop-next
+invariant-loop-next l = Below l.next 1024 × (Met l.nm l.pool l.links l.next l.s → Met l.nm l.pool l.links l.fn.from l.s) × (Met l.nm l.pool l.links l.fn.from l.s → Met l.nm l.pool l.links l.next l.s)
 
-abbrev pub decreases-loop-k : goal.decreases-loop-k
-decreases-loop-k l = l.k
+abbrev pub decreases-loop-next : goal.decreases-loop-next
+decreases-loop-next l = ahead l.next

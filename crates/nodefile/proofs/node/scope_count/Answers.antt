@@ -1,18 +1,16 @@
--- `nodefile::node::scope_count` meets its contract: the nodes below `i` are counted.
--- Assumes nothing.
-use mathlib.Core.Path.{sym, ap, ◌∙◌}
-use native.Mathlib.Omega.{arith}
-use Rattle.nodefile.specs.Listed.{is_scope}
-use Rattle.nodefile.proofs.Counted.{counted_none, counted-one, counted-not}
+-- The nodes that have a scope of their own, counted as `tally` does.
+use Rattle.std.proofs.Common.{ℕ, arith, rules, tests}
+use Rattle.std.proofs.lemmas.Iterator.{YieldsList-from_range}
+use Rattle.std.proofs.lemmas.Iterator.Consumers.{YieldsList-from_filter, count_from_yields_List}
+use Rattle.nodefile.specs.Layout.{node_count, nodes_of}
+use Rattle.nodefile.specs.Listed.{is_scope, kind_at}
+use Rattle.nodefile.proofs.Counted.{counted_is}
 use Rattle.nodefile.proofs.node.scope_count.Goals as goal
-use Rattle.nodefile.proofs.node.scope_count.Goals.{then-is_scope, else-is_scope}
 
-pub loop-i-init : goal.loop-i-init
-loop-i-init c = (omega arith, counted_none _)
-
-pub loop-i-preserved : goal.loop-i-preserved
-loop-i-preserved c =
-    let e = ap is_scope (sym c.kind.ensures.is) ∙ sym c.is_scope.ensures in (
-      omega (arith, c.node_count-n.ensures.is),
-      elim c.if-is_scope.branch [ then-is_scope w ↦ rw w.s-is (counted-one c.loop-i.invariant.1 (e ∙ w.if-is_scope.true)) | else-is_scope w ↦ rw w.s-is (counted-not c.loop-i.invariant.1 (e ∙ w.if-is_scope.false)) ],
-    )
+pub returns : goal.returns
+returns c =
+    let p = λ (i : ℕ). is_scope (kind_at (nodes_of c.args.file.now) i) in
+    counted_is p (node_count c.args.file.now) 65536 c.count.result (omega (arith, c.node_count.ensures.is))
+    (count_from_yields_List c.filter.result c.count.result c.count.ensures.ran
+    (YieldsList-from_filter _ p (YieldsList-from_range 0 _ (node_count c.args.file.now) c.filter.ensures.source (omega (arith, c.node_count.ensures.is)))
+    c.filter.ensures.closure (λ x r q k. search (rules, tests))))

@@ -4,4 +4,4 @@ use Rattle.readers.proofs.Put.{put_all}
 use Rattle.readers.proofs.keys.put_keys.Goals as goal
 
 pub returns : goal.returns
-returns c = put_all c.loop-i.invariant.1 (omega (arith, c.loop-i.invariant.1.as_long))
+returns c = put_all c.loop-i.invariant (omega arith)

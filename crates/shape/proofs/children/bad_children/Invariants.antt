@@ -1,18 +1,14 @@
 -- Number 8 of the whole list: the children of each node passed are what the table allows.
 use Prim.Native.Nat.{ℕ}
-use mathlib.Core.Path.{◌≡◌, sym, ◌∙◌, subst}
-use mathlib.Core.Bool.{true, true≢false}
+use mathlib.Core.Path.{◌≡◌}
+use mathlib.Core.Bool.{true}
 use mathlib.Core.List.{List}
-use native.Mathlib.Omega.{arith}
 use lib.ListN.{length}
 use Rattle.nodefile.specs.Node.{kind_of, below}
-use Rattle.nodefile.specs.Kids.{Kids, Fits}
+use Rattle.nodefile.specs.Kids.{Kids}
 use Rattle.shape.specs.Nodes.{at}
 use Rattle.lexical.specs.Table.{allowed}
-use Rattle.shape.specs.Children.{root_no_statement, other_children}
-use Rattle.shape.proofs.Pass.{Passed, passed_none, passed_inside, passed_more, passed_all}
-use Rattle.shape.proofs.Here.{node_here, kids_here}
-use Rattle.nodefile.proofs.Laws.Fitting.{below-is}
+use Rattle.shape.proofs.Pass.{Passed}
 use Rattle.shape.proofs.children.bad_children.Given as goal
 
 abbrev pub invariant-loop-t : goal.invariant-loop-t

@@ -1,11 +1,9 @@
 -- Number 7 of the whole list: no node passed has a fault of its own.
 use mathlib.Core.Path.{sym, subst}
 use native.Mathlib.Omega.{arith}
-use lib.ListN.{length}
 use Rattle.base.specs.Says.{says-true, says-false}
-use Rattle.shape.specs.Nodes.{at, root_size}
 use Rattle.shape.specs.Inside.Node.{BadNode}
-use Rattle.shape.proofs.Pass.{Passed, passed_none, passed_inside, passed_more, passed_all}
+use Rattle.shape.proofs.Pass.{passed_inside, passed_more, passed_all}
 use Rattle.shape.proofs.Fitting.{node_fault, no_faults}
 use Rattle.shape.proofs.nodes.bad_nodes.Goals as goal
 

@@ -1,13 +1,11 @@
--- `hand` meets its contract. The loop's invariant: the slots before place c, and then what is found so far, hold the answer. It counts c down.
-use Prim.Native.Nat.{suc, ◌-◌, ◌≤◌}
-use mathlib.Core.Path.{◌≡◌, sym, ap, ◌∙◌}
-use native.Mathlib.Omega.{arith}
-use Rattle.store.specs.Hands.{Slotted, hand_of}
-use Rattle.store.proofs.Walked.{Led, led_start, led_on, led_end, best_of}
+-- The loop of `hand`: the slots before place c, and then what is found so far, hold the answer. It counts c down.
+use Rattle.std.specs.Prelude.{◌≤◌}
+use Rattle.store.specs.Hands.{Slotted}
+use Rattle.store.proofs.Walked.{Led}
 use Rattle.store.proofs.slots.hand.Given as goal
 
-abbrev pub invariant-loop-c : goal.invariant-loop-c
-invariant-loop-c l = (l.c ≤ 4096) × (l.best ≤ 65536) × ((g : Slotted l.w l.t) → Led g.slots l.scope l.id l.c l.best)
+abbrev pub invariant-loop-k : goal.invariant-loop-k
+invariant-loop-k l = (l.c ≤ 4096) × ((g : Slotted l.w l.t) → Led g.slots l.scope l.id l.c l.best)
 
-abbrev pub decreases-loop-c : goal.decreases-loop-c
-decreases-loop-c l = l.c
+abbrev pub decreases-loop-k : goal.decreases-loop-k
+decreases-loop-k l = l.c

@@ -1,9 +1,0 @@
--- `with_any` meets its contract: the field's part of the number is exchanged.
-use native.Mathlib.Omega.{arith}
-use Rattle.answer.specs.Records.{binding_widths}
-use Rattle.answer.specs.Laws.{changed-is}
-use borrow.Author.Rules.{rules}
-use Rattle.answer.proofs.binding.with_any.Goals as goal
-
-pub returns : goal.returns
-returns c = changed-is binding_widths 4 c.args.v c.args.r (omega arith) _ c.any.result c.any.ensures.is (omega arith) (omega (arith, c.any.ensures.below))

@@ -1,2 +1,0 @@
-mod Byte
-mod Cleared
