@@ -34,11 +34,11 @@ follow-none cs [] k e = refl
 follow-none cs (x ∷ l) k e = let z : ⊥ = omega arith in absurd z
 
 -- what code found of a slot
-is_own : (o : math.Option ℕ) → None ≡ from_of o → o ≡ math.none
+pub is_own : (o : math.Option ℕ) → None ≡ from_of o → o ≡ math.none
 is_own math.none e = refl
 is_own (math.some p) e = absurd (let z : ◌≡◌ {A = ℕ} 0 1 = cc in omega arith)
 
-is_parent : (o : math.Option ℕ) (p : LocalSlotId) → Some p ≡ from_of o → o ≡ math.some p.0
+pub is_parent : (o : math.Option ℕ) (p : LocalSlotId) → Some p ≡ from_of o → o ≡ math.some p.0
 is_parent math.none p e = absurd (let z : ◌≡◌ {A = ℕ} 0 1 = cc in omega arith)
 is_parent (math.some q) p e = let z : record { 0 = q } ≡ p = cc in ap (λ (x : LocalSlotId). math.some x.0) z
 

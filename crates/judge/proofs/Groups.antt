@@ -54,7 +54,7 @@ module _ {bs : List ℕ} (header : First (header_rows bs) 0) where
   no_header : NoneHolds (header_rows bs)
   no_header = first-none (header_rows bs) 0 tt refl header
 
-  header_left : HeaderOk bs
+  pub header_left : HeaderOk bs
   header_left = let n = none-at (header_rows bs) no_header in header_ok bs (n 2) (n 3) (n 4)
 
   pub by_names : {r : Refusal} {v : Result (Unit {0}) Refusal} → v ≡ Err r → First (name_rows bs) (number_of r) → Judged bs (answered v)

@@ -69,7 +69,8 @@ pub fn print(
 pub fn listing(file: &[u8], from: usize, text: &mut [u8]) -> usize
     ensures { Listed file.now from (length text.old) text.new result }
 {
-    let r = scope::Records::of(file);
+    let mut r = scope::Records::new();
+    r.resolve(file);
     print(
         file,
         r.answer,

@@ -6,6 +6,7 @@
 
 mod out;
 
+ghost use Rattle.std.specs.Prelude.{◌≡◌};
 ghost use Rattle.answer.specs.Buffers.{buffers, ShortOf, Zeroed};
 ghost use Rattle.base.specs.Says.{Says};
 ghost use Rattle.scope.specs.Answer.{Resolves};
@@ -194,7 +195,7 @@ pub fn resolve(
     }
 }
 
-// What a file comes to, in buffers of its own.
+// What a file comes to, in buffers of its own. They are filled where they stand: to hand them out filled would copy 77 KB.
 #[derive(Drop)]
 pub struct Records {
     pub answer: Answer,
@@ -208,36 +209,42 @@ pub struct Records {
 }
 
 impl Records {
-    // The file resolved.
-    pub fn of(file: &[u8]) -> Records
-        ensures { Resolves file.now fresh result.answer (buffers_of result) }
+    // No file's yet: all zero.
+    pub fn new() -> Records
+        ensures { buffers_of result ≡ fresh }
     {
-        let mut nodes = [0u32; answer::NODES];
-        let mut bindings = [0u64; answer::BINDINGS];
-        let mut module = [0u32; answer::ENTRIES];
-        let mut scopes = [0u32; answer::SCOPES];
-        let mut slots = [0u32; answer::SLOTS];
-        let mut copies = [0u32; answer::COPIES];
-        let mut errors = [0u32; answer::ERRORS];
-        let answer = resolve(
-            file,
-            &mut nodes,
-            &mut bindings,
-            &mut module,
-            &mut scopes,
-            &mut slots,
-            &mut copies,
-            &mut errors,
-        );
         Records {
-            answer,
-            nodes,
-            bindings,
-            module,
-            scopes,
-            slots,
-            copies,
-            errors,
+            answer: Answer {
+                number: 0,
+                bindings: 0,
+                module: 0,
+                slots: 0,
+                copies: 0,
+                errors: 0,
+            },
+            nodes: [0; answer::NODES],
+            bindings: [0; answer::BINDINGS],
+            module: [0; answer::ENTRIES],
+            scopes: [0; answer::SCOPES],
+            slots: [0; answer::SLOTS],
+            copies: [0; answer::COPIES],
+            errors: [0; answer::ERRORS],
         }
+    }
+
+    // A file resolved in them, whatever they hold.
+    pub fn resolve(&mut self, file: &[u8])
+        ensures { Resolves file.now (buffers_of self.old) self.new.answer (buffers_of self.new) }
+    {
+        self.answer = resolve(
+            file,
+            &mut self.nodes,
+            &mut self.bindings,
+            &mut self.module,
+            &mut self.scopes,
+            &mut self.slots,
+            &mut self.copies,
+            &mut self.errors,
+        );
     }
 }

@@ -54,7 +54,8 @@ fn slot_lines(rt: &impl Print, file: &[u8], records: &[u32], count: usize) -> io
 
 // The listing, then the lines for Names and slots.
 fn list(rt: &impl Print, file: &[u8]) -> io::Result<()> {
-    let records = Records::of(file);
+    let mut records = Records::new();
+    records.resolve(file);
     lister::show_all(rt, file)?;
     if records.answer.number == 0 {
         name_lines(rt, file, &records.nodes)?;

@@ -44,7 +44,7 @@ says_map true f g h = f h
 says_map false f g h = λ q. h (g q)
 
 -- what a walk says of every forest that the list holds it says of number 9
-says_depth : (b : Bool) {ns : List ℕ} → Sound ns → ((at : ℕ) (f : Forest) → Reads ns at f → Says b (64 < height f)) → Says b (TooDeep ns)
+pub says_depth : (b : Bool) {ns : List ℕ} → Sound ns → ((at : ℕ) (f : Forest) → Reads ns at f → Says b (64 < height f)) → Says b (TooDeep ns)
 says_depth b {ns} s h =
     let r = tree ns (record { root = s.root; local = s.fits }) in
     says_map b (λ l. too_deep r.0 r.1 l) (λ d. elim d [ too_deep g q l ↦ subst (λ (x : Forest). 64 < height x) (reads_one g r.0 ns 0 q r.1) l ]) (h 0 r.0 r.1)

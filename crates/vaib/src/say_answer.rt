@@ -37,7 +37,8 @@ fn say_numbers(rt: &impl Print, a: Answer) -> io::Result<()> {
 }
 
 pub fn show(rt: &impl Print, file: &[u8]) -> io::Result<()> {
-    let records = Records::of(file);
+    let mut records = Records::new();
+    records.resolve(file);
     say_numbers(rt, records.answer)?;
     say(rt, &records.nodes)?;
     say(rt, &records.bindings)?;
