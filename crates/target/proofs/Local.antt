@@ -13,7 +13,7 @@ use Rattle.lexical.specs.Block.{slot_for}
 use Rattle.lexical.specs.Records.{bit}
 use Rattle.answer.specs.Records.{scope_slots}
 use Rattle.std.specs.Prelude.{Ok}
-use Rattle.store.proofs.Laws.Lengths.{Lent}
+use Rattle.store.proofs.Laws.Lengths.{Lent, lent_kept}
 use Rattle.store.specs.declared.ids.State.{State}
 use Rattle.store.specs.Sections.{mem}
 use Rattle.store.specs.Words.{binding_word, answer_word, pair_word, more_word}
@@ -60,11 +60,14 @@ module _ {W : World} {env : List Binding} {ss : List ℕ} {E : BlockEnv} {ts : L
     abbrev t₁ : List ℕ
     t₁ = set t (4096 + x.name) (id_after E ts + 1)
 
+    long₁ : Lent (mem binds w₁ t₁)
+    long₁ = lent_kept long (record { binds = refl; w = length-set w _ _; t = length-set t _ _ })
+
     made : MadeIn (block_st E (ts ++ (x ∷ []))).made (caps E.st) (set binds (id_after E ts) (binding_word x.name x.node (bit false) (bit x.public) (bit x.any) 0 (bit E.local) (slot_after E ts))) (local_t x.name E.scope s.slots (slot_after E ts) (id_after E ts) t)
     unfolding placed new_var
     made = rw (made_new E ts x new)
         (made_skip (made_skip (made_skip
-        (made_push (made_skip (parts r).made _ _ (omega arith)) long.binds (length-set t (4096 + x.name) (id_after E ts + 1) ∙ long.t) (id_after E ts) _ (new_here r x new) id-few
+        (made_push (made_skip (parts r).made _ _ (omega arith)) long₁.binds long₁.t (id_after E ts) _ (new_here r x new) id-few
         (new_sound r x new name node (omega (arith, local_few k-few)) (λ _. local_few k-few)) (new_free r x new))
         _ _ (omega arith)) _ _ (omega arith)) _ _ (omega arith))
 
@@ -72,8 +75,8 @@ module _ {W : World} {env : List Binding} {ss : List ℕ} {E : BlockEnv} {ts : L
     unfolding slot_for placed new_var
     slots = rw (slots_new E ts x new l)
         (slots_push (slots_skip_t (slots_skip_t (slots_skip_w (parts r).slots _ _ (omega arith) (omega arith)) _ _ (omega arith) (omega arith)) _ _ (omega arith) (omega arith))
-        (length-set w x.node (answer_word (cond E.local 2 1) (slot_after E ts) (id_after E ts)) ∙ long.w)
-        (length-set t₁ (7424 + id_after E ts) E.scope ∙ length-set t (4096 + x.name) (id_after E ts + 1) ∙ long.t)
+        long₁.w
+        (length-set t₁ (7424 + id_after E ts) E.scope ∙ long₁.t)
         (slot_for E.scope (slot_after E ts) (placed E (length (vars_of E ts)) (new_var x))) s.slots (parts r).slots_are k-few
         (r.facts.slot_local l (length (vars_of E ts)) ∙ sym (fresh-count E l ts)) r.facts.scope_small (omega arith) id-few)
 
