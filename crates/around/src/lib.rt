@@ -11,9 +11,6 @@ ghost use Rattle.std.specs.Prelude.{◌≡◌, length};
 ghost use Rattle.around.specs.Scopes.{scopes_at, Holds};
 ghost use Rattle.around.specs.Outer.{outer_table};
 
-// How deep a tree may be (document 01, number 9; `scoping` has the limit for its own walk).
-const LEVELS: usize = 64;
-
 // Puts the scopes around a node into out, outermost first, as many as fit, and zeros behind; returns how many they are.
 pub fn scopes(file: &[u8], node: usize, out: &mut [u32]) -> usize
     ensures { Holds (scopes_at file.now node) result out.old out.new }
@@ -30,7 +27,5 @@ pub fn scopes(file: &[u8], node: usize, out: &mut [u32]) -> usize
 pub fn outer(file: &[u8], out: &mut [u32])
     ensures { out.new ≡ outer_table file.now (length out.old) }
 {
-    out.fill(0);
-    let ns = nodefile::nodes(file);
-    table::within(ns, 0, ns.len() / 8, 0, 0, LEVELS, out);
+    table::all(nodefile::nodes(file), out);
 }
